@@ -1,0 +1,3 @@
+pub mod Layering
+pub mod Prefix
+pub mod Reason

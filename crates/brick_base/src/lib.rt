@@ -1,0 +1,25 @@
+//! What every crate of `bricks` shares: the Internet checksum and its update, the hash of flow keys, the classes of records,
+//! the reasons of drops, want of memory, names and lists of numbers, and the trait of protocol layers.
+#![tactic(auto)]
+
+mod addresses;
+mod drops;
+mod flow;
+mod hashing;
+mod layer;
+mod lists;
+mod memory;
+mod sums;
+#[cfg(test)]
+mod tests;
+mod text;
+
+pub use addresses::Prefix;
+pub use drops::Reason;
+pub use flow::{Class, Dir, Ends};
+pub use hashing::fnv1a;
+pub use layer::{Proto, Raw};
+pub use lists::Numbers;
+pub use memory::NoMemory;
+pub use sums::{adjust, checksum};
+pub use text::Name;

@@ -1,0 +1,5 @@
+pub mod Records
+pub mod Places
+pub mod Headers
+pub mod Captures
+pub mod Faults

@@ -1,0 +1,109 @@
+ghost use Rattle.std.specs.Prelude.{◌≡◌, ◌+◌, ◌<◌, ◌≤◌, List, Some, length, vec_len, slice_get, IfOk, IsErrOf, flat_map};
+ghost use Rattle.std.specs.List.{AllByRecursion};
+ghost use Rattle.brick_spec.specs.Capture as spec;
+ghost use Rattle.brick_spec.specs.Capture.{Fits, Contents, IsFirstCapture, record_text};
+ghost use Rattle.pcap_io.specs.Reading.{entries_at, ArePlaces};
+ghost use Rattle.pcap_io.specs.View.{entry_view, order_view};
+
+use crate::header::{HEADER, is_header};
+use crate::number::Order;
+use crate::record::{record_at_front, record_size};
+use crate::{CaptureFault, Entry};
+use std::alloc::Global;
+use std::marker::Model;
+
+/// The places of the records, where there are whole records and nothing more.
+fn places_of(alloc: Global, order: Order, records: &[u8]) -> Result<Vec<usize>, CaptureFault>
+    requires { length records.now ≤ 33554432 }
+    ensures text { IfOk result (λ places. records.now ≡ flat_map (record_text (order_view order)) (entries_at (order_view order) records.now places.items)) }
+    ensures fit { IfOk result (λ places. AllByRecursion Fits (entries_at (order_view order) records.now places.items)) }
+    ensures places { IfOk result (λ places. ArePlaces (order_view order) records.now places.items) }
+    ensures fault { IsErrOf result CaptureFault.FirstForm → (es : List spec.Entry) → AllByRecursion Fits es → records.now ≡ flat_map (record_text (order_view order)) es → ⊥ }
+{
+    let mut places = Vec::new(alloc);
+    let mut at = 0;
+    while at < records.len() {
+        let (_, rest) = records.split_at(at);
+        let Some(size) = record_size(order, rest) else {
+            return Err(CaptureFault::FirstForm);
+        };
+        places.push(at)?;
+        at += size;
+    }
+    Ok(places)
+}
+
+/// A capture that was read whole. It owns its bytes and keeps the place of each record.
+#[derive(Drop)]
+pub struct Capture {
+    order: Order,
+    nano: bool,
+    bytes: Vec<u8>,
+    // from the end of the file header on
+    places: Vec<usize>,
+}
+
+impl Model for Capture {
+    ghost use Rattle.std.specs.Prelude.{◌≤◌, length, drop};
+    ghost use Rattle.brick_spec.specs.Capture.{Contents};
+    ghost use Rattle.pcap_io.specs.Reading.{entries_at, ArePlaces};
+    ghost use Rattle.pcap_io.specs.View.{order_view};
+
+    ghost Value = { Contents };
+
+    ghost view = { λ c. record { nano = c.nano; entries = entries_at (order_view c.order) (drop 24 c.bytes.items) c.places.items } };
+
+    ghost invariant = { λ c. (24 ≤ length c.bytes.items) × ArePlaces (order_view c.order) (drop 24 c.bytes.items) c.places.items };
+}
+
+impl Capture {
+    /// Reads a whole capture in its first form: little-endian, with fractions in microseconds. On a refusal the bytes are given up.
+    /// No frame is copied.
+    pub fn read(alloc: Global, bytes: Vec<u8>) -> Result<Capture, CaptureFault>
+        requires { vec_len bytes ≤ 33554432 }
+        ensures whole { IfOk result (IsFirstCapture bytes.items) }
+        ensures fault { IsErrOf result CaptureFault.FirstForm → (c : Contents) → ¬ (IsFirstCapture bytes.items c) }
+    {
+        if bytes.len() < HEADER {
+            return Err(CaptureFault::FirstForm);
+        }
+        let order = Order::Little;
+        let nano = false;
+        let (header, records) = bytes.split_at(HEADER);
+        if !is_header(order, nano, header) {
+            return Err(CaptureFault::FirstForm);
+        }
+        let places = places_of(alloc, order, records)?;
+        Ok(Capture {
+            order,
+            nano,
+            bytes,
+            places,
+        })
+    }
+
+    /// How many records there are.
+    pub fn count(&self) -> u32
+        ensures { result ≡ length self.now.entries }
+    {
+        self.places.len() as u32
+    }
+
+    /// Whether the fractions are nanoseconds, and not microseconds.
+    pub fn nano(&self) -> bool
+        ensures { result ≡ self.now.nano }
+    {
+        self.nano
+    }
+
+    /// The record of a number, counted from 0. Its frame is lent from the capture.
+    pub fn entry(&self, k: u32) -> Entry<'_>
+        requires { k < length self.now.entries }
+        ensures entry { slice_get self.now.entries k ≡ Some (entry_view result) }
+        ensures short { length result.frame.now ≤ 262144 }
+    {
+        let (_, records) = self.bytes.split_at(HEADER);
+        let (_, rest) = records.split_at(self.places[k as usize]);
+        record_at_front(self.order, rest)
+    }
+}

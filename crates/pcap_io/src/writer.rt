@@ -1,0 +1,86 @@
+ghost use Rattle.std.specs.Prelude.{◌≡◌, ◌≤◌, ◌∷◌, [], ◌++◌, ℕ, Bool, List, length, IfOk, OnOk, OnErr};
+ghost use Rattle.brick_spec.specs.Bytes.{Little, four_bytes};
+ghost use Rattle.brick_spec.specs.Capture.{header_text, record_text};
+ghost use Rattle.brick_spec.specs.Item as spec;
+ghost use Rattle.brick_spec.specs.Item.{entry_of, items_text};
+ghost use Rattle.pcap_io.specs.View.{item_view};
+
+use crate::Item;
+use crate::header::{HEADER, magic_number};
+use crate::record::{HEAD, LONGEST};
+use brick_base::NoMemory;
+use byteorder::{ByteOrder, LittleEndian};
+use std::alloc::Global;
+use std::marker::Model;
+
+/// The text of a capture, as it grows: little-endian, version 2.4, zone 0, accuracy 0, snapshot length 262,144, link type 1.
+#[derive(Drop)]
+pub struct Writer {
+    bytes: Vec<u8>,
+}
+
+impl Model for Writer {
+    ghost use Rattle.std.specs.Prelude.{List, ℕ};
+
+    ghost Value = { List ℕ };
+
+    ghost view = { λ w. w.bytes.items };
+}
+
+/// The file header.
+#[tactic(auto, unfolding(brick_spec::specs::Bytes::two_bytes, brick_spec::specs::Bytes::four_bytes, brick_spec::specs::Capture::header_text))]
+fn file_header(nano: bool) -> [u8; 24]
+    ensures { result ≡ header_text nano }
+{
+    let mut header = [0; HEADER];
+    LittleEndian::write_u32(&mut header, magic_number(nano));
+    LittleEndian::write_u16_into(&[2, 4], &mut header[4..8]);
+    LittleEndian::write_u32_into(&[0, 0, LONGEST, 1], &mut header[8..]);
+    header
+}
+
+/// The four numbers of an item's record, which stand in front of its frame.
+#[tactic(auto, unfolding(brick_spec::specs::Bytes::four_bytes))]
+fn record_head(item: &Item) -> [u8; 16]
+    requires { length item.now.frame ≤ 262144 }
+    ensures { result ≡ four_bytes Little item.now.seconds ++ (four_bytes Little item.now.fraction ++ (four_bytes Little (length item.now.frame) ++ four_bytes Little item.now.original)) }
+{
+    let captured = item.frame.as_slice().len() as u32;
+    let numbers = [item.seconds, item.fraction, captured, item.original];
+    let mut head = [0; HEAD];
+    LittleEndian::write_u32_into(&numbers, &mut head);
+    head
+}
+
+impl Writer {
+    /// A capture with no record, whose fractions are nanoseconds or else microseconds.
+    pub fn new(alloc: Global, nano: bool) -> Result<Writer, NoMemory>
+        ensures { IfOk result (λ w. w ≡ items_text nano []) }
+    {
+        let bytes = Vec::from_array(alloc, file_header(nano))?;
+        Ok(Writer { bytes })
+    }
+
+    /// Puts the item behind the others, as a record. Where memory runs out nothing is put.
+    pub fn append(&mut self, item: &Item) -> Result<(), NoMemory>
+        requires { length item.now.frame ≤ 262144 }
+        ensures ok { OnOk result (self.new ≡ self.old ++ record_text Little (entry_of (item_view item.now))) }
+        ensures text { OnOk result ((nano : Bool) (items : List spec.Item) → self.old ≡ items_text nano items → self.new ≡ items_text nano (items ++ item_view item.now ∷ [])) }
+        ensures err { OnErr result (self.new ≡ self.old) }
+    {
+        let head = record_head(item);
+        let frame = item.frame.as_slice();
+        self.bytes.reserve(HEAD + frame.len())?;
+        self.bytes.extend_from_slice(head.as_slice())?;
+        self.bytes.extend_from_slice(frame)?;
+        Ok(())
+    }
+
+    /// The bytes, with their room.
+    pub fn into_bytes(self) -> Vec<u8>
+        ensures { result.items ≡ self }
+    {
+        let Writer { bytes } = self;
+        bytes
+    }
+}
