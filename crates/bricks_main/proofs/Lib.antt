@@ -1,0 +1,11 @@
+pub mod ChainTexts
+pub mod ChainFiles
+pub mod FrameLayers
+pub mod Loops
+pub mod Progress
+pub mod Promises
+pub mod Quotations
+pub mod Rows
+pub mod Runs
+pub mod TakeRecord
+pub mod TextLists

@@ -1,0 +1,17 @@
+use Rattle.std.specs.Prelude.{IsTrue}
+use Rattle.brick_spec.specs.Promise.{seen}
+use Rattle.bricks_main.specs.View.{outcome_view}
+use Rattle.bricks_main.proofs.Promises.{promises_kept}
+use Rattle.bricks_main.proofs.run.run_inline.Goals as goal
+
+pub returns : goal.returns
+returns g c = promises_kept (IsTrue g.S.Store.tells) (IsTrue g.P.Sink.tells) c.args.chains.now c.args.out_dir.now
+    (seen (g.S.Store.file c.args.store.now) (g.S.Store.faults c.args.store.now) (g.P.Sink.written c.args.out.now) (g.P.Sink.faults c.args.out.now))
+    (seen (g.S.Store.file c.run_files-outcome.new.store) (g.S.Store.faults c.run_files-outcome.new.store) (g.P.Sink.written c.tell.new.sink) (g.P.Sink.faults c.tell.new.sink))
+    (outcome_view c.run_files-outcome.result) c.tell.result c.run_files-outcome.ensures.known (record {
+      leaves = c.run_files-outcome.ensures.leaves;
+      fault = c.run_files-outcome.ensures.fault;
+      told = c.tell.ensures.told;
+      sink = c.tell.ensures.fault;
+      shown = c.tell.ensures.shown;
+    })

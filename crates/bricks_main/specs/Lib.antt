@@ -1,0 +1,7 @@
+pub mod View
+pub mod ChainFile
+pub mod Progress
+pub mod ProgressView
+pub mod Row
+pub mod Run
+pub mod WholeFiles

@@ -1,0 +1,31 @@
+-- What was made of the first records of a capture.
+use Rattle.std.specs.Prelude.{◌≡◌, ℕ, ◌+◌, Bool, List, [], ◌∷◌, ◌++◌, take, length, slice_index, slice_set}
+use Rattle.brick_spec.specs.Capture.{Contents}
+use Rattle.brick_spec.specs.Item.{Item, items_text}
+use Rattle.brick_spec.specs.Chain.{Chain}
+use Rattle.brick_spec.specs.Tenant.{accepted_items, made, reasons, counts_of, output_text}
+
+-- the first k records
+abbrev pub first : ℕ → Contents → Contents
+first k c = record { nano = c.nano; entries = take k c.entries }
+
+-- the text of the output, and what is counted
+pub record SoFar : Type 0 where
+  pub text : List ℕ
+  pub accepted : ℕ
+  pub drops : List ℕ
+  pub passed : ℕ
+
+abbrev pub so_far : Chain → Contents → SoFar
+so_far chain c = record { text = output_text chain c; accepted = length (accepted_items chain c); drops = counts_of (reasons chain c); passed = length (made chain c).passed }
+
+-- the counts with one more at a place
+abbrev pub one_more_at : ℕ → List ℕ → List ℕ
+one_more_at place counts = slice_set counts place (slice_index counts place + 1)
+
+-- the output has this item too
+pub record WritesItem (item : Item) (old new : SoFar) : Type 0 where
+  pub text : (nano : Bool) (items : List Item) → old.text ≡ items_text nano items → new.text ≡ items_text nano (items ++ item ∷ [])
+  pub accepted : new.accepted ≡ old.accepted
+  pub drops : new.drops ≡ old.drops
+  pub passed : new.passed ≡ old.passed + 1

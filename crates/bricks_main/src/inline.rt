@@ -1,0 +1,177 @@
+//! A run without lanes: the chain file's tenant, from the files of a store to its files.
+ghost use Rattle.std.specs.Prelude.{◌≡◌, ◌≢◌, ℕ, List, Err, IfOk, IsTrue, map, string_bytes};
+ghost use Rattle.brick_spec.specs.Tenant.{texts_of, tally_of};
+ghost use Rattle.brick_spec.specs.Report.{Usage, StoreFault};
+ghost use Rattle.brick_spec.specs.Promise.{ChainFaultRose, StoreFaultRose, Leaves};
+ghost use Rattle.bricks_main.specs.View.{chain_view, tally_view, end_view, outcome_view};
+ghost use Rattle.bricks_main.specs.WholeFiles.{text_view};
+ghost use Rattle.bricks_main.specs.Run.{made_tally, written_texts, one_line, TenantRan, ChainLeaves};
+ghost use Rattle.bricks_main.specs.ProgressView.{progress_view};
+
+use crate::chain::{Chain, output_file, refused_file};
+use crate::chain_file::read_chain_file;
+use crate::report::{Line, Outcome, Output, Tally, TenantEnd};
+use crate::tenant::{Progress, take_records};
+use crate::whole_files::{ReadFault, Text, read_whole, write_texts};
+use brick_base::NoMemory;
+use pcap_io::{Capture, CaptureFault};
+use std::alloc::Global;
+use store_io::{IoFault, Store};
+
+/// The account that reads the chain file.
+const CHAINS_ACCOUNT: u32 = 0;
+
+/// The account that reads for tenant 0.
+const READ_ACCOUNT: u32 = 1;
+
+/// The account that writes for tenant 0.
+const WRITE_ACCOUNT: u32 = 2;
+
+/// The most bytes of a chain file.
+const LONGEST_CHAIN_FILE: usize = 1048576;
+
+/// The most bytes of a capture.
+const LONGEST_CAPTURE: usize = 33554432;
+
+/// Why a tenant's run stopped before its line was known.
+#[derive(Clone, Copy, Debug, PartialEq, Eq)]
+pub enum Stop {
+    /// A call of the store failed.
+    StoreFault,
+    /// Memory ran out.
+    NoMemory,
+}
+
+/// What is counted of the tenant.
+fn tally_in(alloc: Global, chain: &Chain, progress: &Progress) -> Result<Tally, NoMemory>
+    ensures { IfOk result (λ t. tally_view t ≡ made_tally (string_bytes chain.now.group) (progress_view progress.now)) }
+{
+    let mut outputs = Vec::with_capacity(alloc, 1)?;
+    outputs.push(Output {
+        name: chain.group.clone()?,
+        items: progress.passed,
+    })?;
+    Ok(Tally {
+        accepted: progress.accepted,
+        refused: 0,
+        drops: progress.drops,
+        outputs,
+    })
+}
+
+/// The files of the run with their texts, in the order in which they are written.
+fn texts_in(alloc: Global, chain: &Chain, out: &str, output: Vec<u8>) -> Result<Vec<Text>, NoMemory>
+    ensures { IfOk result (λ texts. map text_view texts.items ≡ written_texts out.now (chain_view chain.now) output.items) }
+{
+    let name = chain.name.as_str();
+    let mut texts = Vec::with_capacity(alloc, 2)?;
+    texts.push(Text {
+        name: output_file(alloc, out, name, chain.group.as_str())?,
+        bytes: output,
+    })?;
+    texts.push(Text {
+        name: refused_file(alloc, out, name)?,
+        bytes: Vec::new(alloc),
+    })?;
+    Ok(texts)
+}
+
+/// What a run makes of a capture: the texts of its files, and what is counted.
+fn make_texts(
+    alloc: Global,
+    chain: &Chain,
+    out: &str,
+    capture: &Capture,
+) -> Result<(Vec<Text>, Tally), NoMemory>
+    ensures { IfOk result (λ made. (map text_view made.0.items ≡ texts_of out.now (chain_view chain.now) capture.now) × (tally_view made.1 ≡ tally_of (chain_view chain.now) capture.now)) }
+{
+    let progress = take_records(alloc, chain, capture)?;
+    let tally = tally_in(alloc, chain, &progress)?;
+    let Progress { writer, .. } = progress;
+    let texts = texts_in(alloc, chain, out, writer.into_bytes())?;
+    Ok((texts, tally))
+}
+
+/// Reads the tenant's capture, and writes its files.
+fn run_tenant<S: Store>(
+    alloc: Global,
+    store: &mut S,
+    chain: &Chain,
+    out: &str,
+) -> Result<TenantEnd, Stop>
+    ensures leaves { IsTrue S.tells → TenantRan out.now (chain_view chain.now) (S.file store.old) (S.file store.new) result }
+    ensures fault { result ≡ Err Stop.StoreFault → ChainFaultRose (IsTrue S.tells) out.now (chain_view chain.now) (S.file store.old) (S.faults store.old) (S.faults store.new) }
+{
+    let bytes = match read_whole(
+        alloc,
+        store,
+        READ_ACCOUNT,
+        chain.capture.as_str(),
+        LONGEST_CAPTURE,
+    ) {
+        Ok(bytes) => bytes,
+        Err(ReadFault::TooLong) => return Ok(TenantEnd::BadCapture),
+        Err(ReadFault::Failed) => return Err(Stop::StoreFault),
+        Err(ReadFault::NoMemory) => return Err(Stop::NoMemory),
+    };
+    let capture = match Capture::read(alloc, bytes) {
+        Ok(capture) => capture,
+        Err(CaptureFault::FirstForm) => return Ok(TenantEnd::BadCapture),
+        Err(CaptureFault::NoMemory) => return Err(Stop::NoMemory),
+    };
+    let Ok((texts, tally)) = make_texts(alloc, chain, out, &capture) else {
+        return Err(Stop::NoMemory);
+    };
+    match write_texts(store, WRITE_ACCOUNT, &texts) {
+        Ok(()) => Ok(TenantEnd::Done(tally)),
+        Err(IoFault::Failed) => Err(Stop::StoreFault),
+        Err(IoFault::NoMemory) => Err(Stop::NoMemory),
+    }
+}
+
+/// The report of one tenant.
+fn report_one(alloc: Global, chain: &Chain, end: TenantEnd) -> Result<Outcome, NoMemory>
+    ensures { IfOk result (λ outcome. outcome_view outcome ≡ one_line (chain_view chain.now) (end_view end)) }
+{
+    let mut lines = Vec::with_capacity(alloc, 1)?;
+    lines.push(Line {
+        name: chain.name.clone()?,
+        end,
+    })?;
+    Ok(Outcome::Reported(lines))
+}
+
+/// Runs an accepted chain.
+fn run_chain<S: Store>(alloc: Global, store: &mut S, chain: &Chain, out: &str) -> Outcome
+    ensures leaves { IsTrue S.tells → ChainLeaves out.now (chain_view chain.now) (S.file store.old) (S.file store.new) (outcome_view result) }
+    ensures known { outcome_view result ≢ Usage }
+    ensures fault { outcome_view result ≡ StoreFault → ChainFaultRose (IsTrue S.tells) out.now (chain_view chain.now) (S.file store.old) (S.faults store.old) (S.faults store.new) }
+{
+    match run_tenant(alloc, store, chain, out) {
+        Ok(end) => match report_one(alloc, chain, end) {
+            Ok(outcome) => outcome,
+            Err(NoMemory) => Outcome::NoMemory,
+        },
+        Err(Stop::StoreFault) => Outcome::StoreFault,
+        Err(Stop::NoMemory) => Outcome::NoMemory,
+    }
+}
+
+/// Reads the chain file, and runs its chain.
+pub fn run_files<S: Store>(alloc: Global, store: &mut S, chains: &str, out: &str) -> Outcome
+    ensures leaves { IsTrue S.tells → Leaves chains.now out.now (S.file store.old) (S.file store.new) (outcome_view result) }
+    ensures known { outcome_view result ≢ Usage }
+    ensures fault { outcome_view result ≡ StoreFault → StoreFaultRose (IsTrue S.tells) chains.now out.now (S.file store.old) (S.faults store.old) (S.faults store.new) }
+{
+    let bytes = match read_whole(alloc, store, CHAINS_ACCOUNT, chains, LONGEST_CHAIN_FILE) {
+        Ok(bytes) => bytes,
+        Err(ReadFault::TooLong) => return Outcome::ChainsRefused,
+        Err(ReadFault::Failed) => return Outcome::StoreFault,
+        Err(ReadFault::NoMemory) => return Outcome::NoMemory,
+    };
+    match read_chain_file(alloc, &bytes, chains, out) {
+        Ok(Some(chain)) => run_chain(alloc, store, &chain, out),
+        Ok(None) => Outcome::ChainsRefused,
+        Err(NoMemory) => Outcome::NoMemory,
+    }
+}

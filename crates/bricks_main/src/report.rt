@@ -1,0 +1,216 @@
+//! How a run ends, and the text that tells it.
+ghost use Rattle.std.specs.Prelude.{◌≡◌, ◌++◌, ℕ, List, IfOk, OnOk, flat_map, map, decimal, string_bytes, length};
+ghost use Rattle.std.specs.List.{list_all};
+ghost use Rattle.brick_spec.specs.Report as spec;
+ghost use Rattle.bricks_main.specs.View.{tally_view, output_view, end_view, line_view, outcome_view};
+
+use brick_base::NoMemory;
+use std::alloc::Global;
+
+/// An output by its name, and how many items it has.
+#[derive(Debug, Drop)]
+pub struct Output {
+    pub name: String,
+    pub items: u32,
+}
+
+/// What is counted of a tenant.
+#[derive(Debug, Drop)]
+pub struct Tally {
+    /// How many records were accepted.
+    pub accepted: u32,
+    /// How many records were refused.
+    pub refused: u32,
+    /// How many items were dropped, by their reasons, in the order of `Reason`.
+    pub drops: [u32; 9],
+    pub outputs: Vec<Output>,
+}
+
+/// What became of a tenant.
+#[derive(Debug, Drop)]
+pub enum TenantEnd {
+    /// Its files are written.
+    Done(Tally),
+    /// Its capture was read and is not of the first form.
+    BadCapture,
+}
+
+/// What is told of a tenant.
+#[derive(Debug, Drop)]
+pub struct Line {
+    pub name: String,
+    pub end: TenantEnd,
+}
+
+/// How a run ends.
+#[derive(Debug, Drop)]
+pub enum Outcome {
+    /// The words are no line.
+    Usage,
+    /// The chain file was read and is not accepted.
+    ChainsRefused,
+    /// A call of the store failed.
+    StoreFault,
+    /// Memory ran out.
+    NoMemory,
+    /// A line for each tenant.
+    Reported(Vec<Line>),
+}
+
+/// How many records there are, and how many were accepted and refused.
+#[tactic(auto, unfolding(brick_spec::specs::Report::records_text))]
+fn records_text(alloc: Global, tally: &Tally) -> Result<String, NoMemory>
+    ensures { IfOk result (λ text. string_bytes text ≡ spec.records_text (tally_view tally.now)) }
+{
+    let accepted = tally.accepted;
+    let refused = tally.refused;
+    let records = u64::from(accepted) + u64::from(refused) + u64::from(tally.drops[0]);
+    let text = format!(in alloc; " done records={records} accepted={accepted} refused={refused}")?;
+    Ok(text)
+}
+
+/// Three labels, each with its count.
+fn three_counts(
+    alloc: Global,
+    labels: (&str, &str, &str),
+    counts: (u32, u32, u32),
+) -> Result<String, NoMemory>
+    ensures { IfOk result (λ text. string_bytes text ≡ labels.entry.0.now ++ (decimal counts.0 ++ (labels.entry.1.now ++ (decimal counts.1 ++ (labels.entry.2.now ++ decimal counts.2))))) }
+{
+    let (first, second, third) = labels;
+    let (a, b, c) = counts;
+    let text = format!(in alloc; "{first}{a}{second}{b}{third}{c}")?;
+    Ok(text)
+}
+
+/// How many items were dropped for each reason.
+#[tactic(auto, unfolding(brick_spec::specs::Report::drops_text))]
+fn drops_text(alloc: Global, drops: &[u32; 9]) -> Result<String, NoMemory>
+    ensures { IfOk result (λ text. string_bytes text ≡ spec.drops_text drops.now) }
+{
+    let first = three_counts(
+        alloc,
+        (" Big=", " Unparsed=", " Fire="),
+        (drops[0], drops[1], drops[2]),
+    )?;
+    let second = three_counts(
+        alloc,
+        (" NoRoute=", " Ttl=", " NatFull="),
+        (drops[3], drops[4], drops[5]),
+    )?;
+    let third = three_counts(
+        alloc,
+        (" Filter=", " NoGroup=", " Reach="),
+        (drops[6], drops[7], drops[8]),
+    )?;
+    let text = format!(in alloc; "{first}{second}{third}")?;
+    Ok(text)
+}
+
+/// Puts the output's name and its number of items behind the text.
+fn push_output(alloc: Global, text: &mut String, output: &Output) -> Result<(), NoMemory>
+    ensures { OnOk result (string_bytes text.new ≡ string_bytes text.old ++ spec.output_count_text (output_view output.now)) }
+{
+    let name = output.name.as_str();
+    let items = output.items;
+    let count = format!(in alloc; " /{name}={items}")?;
+    text.push_str(count.as_str())?;
+    Ok(())
+}
+
+/// Puts the outputs behind the text.
+fn push_outputs(alloc: Global, text: &mut String, outputs: &[Output]) -> Result<(), NoMemory>
+    ensures { OnOk result (string_bytes text.new ≡ string_bytes text.old ++ flat_map spec.output_count_text (map output_view outputs.now)) }
+{
+    for output in outputs {
+        push_output(alloc, text, output)?;
+    }
+    Ok(())
+}
+
+/// Puts the end of a tenant's line behind the text.
+fn push_end(alloc: Global, text: &mut String, end: &TenantEnd) -> Result<(), NoMemory>
+    ensures { OnOk result (string_bytes text.new ≡ string_bytes text.old ++ spec.end_text (end_view end.now)) }
+{
+    match end {
+        TenantEnd::Done(tally) => {
+            let records = records_text(alloc, tally)?;
+            text.push_str(records.as_str())?;
+            let drops = drops_text(alloc, &tally.drops)?;
+            text.push_str(drops.as_str())?;
+            push_outputs(alloc, text, &tally.outputs)
+        }
+        TenantEnd::BadCapture => {
+            text.push_str(" bad-capture 0 FirstForm")?;
+            Ok(())
+        }
+    }
+}
+
+/// Puts a tenant's line behind the text.
+fn push_line(alloc: Global, text: &mut String, line: &Line) -> Result<(), NoMemory>
+    ensures { OnOk result (string_bytes text.new ≡ string_bytes text.old ++ spec.line_text (line_view line.now)) }
+{
+    text.push_str(line.name.as_str())?;
+    push_end(alloc, text, &line.end)?;
+    text.push_str("\n")?;
+    Ok(())
+}
+
+/// The report of the tenants.
+fn report_text(alloc: Global, lines: &[Line]) -> Result<String, NoMemory>
+    ensures { IfOk result (λ text. string_bytes text ≡ flat_map spec.line_text (map line_view lines.now)) }
+{
+    let mut text = String::new(alloc);
+    for line in lines {
+        push_line(alloc, &mut text, line)?;
+    }
+    Ok(text)
+}
+
+/// The text that tells the outcome.
+pub fn outcome_text(alloc: Global, outcome: &Outcome) -> Result<String, NoMemory>
+    ensures { IfOk result (λ text. string_bytes text ≡ spec.outcome_text (outcome_view outcome.now)) }
+{
+    let text = match outcome {
+        Outcome::Usage => "usage: bricks [--workers N] MODE CHAINS OUT\n",
+        Outcome::ChainsRefused => "chains: 0 FirstForm\n",
+        Outcome::StoreFault => "store-fault\n",
+        Outcome::NoMemory => "out of memory\n",
+        Outcome::Reported(lines) => return report_text(alloc, lines),
+    };
+    let text = String::from_str(alloc, text)?;
+    Ok(text)
+}
+
+/// Whether the tenant's files are written.
+fn is_done(line: &Line) -> bool
+    ensures { result ≡ spec.is_done (line_view line.now) }
+{
+    matches!(line.end, TenantEnd::Done(_))
+}
+
+/// Whether every tenant's files are written.
+fn all_done(lines: &[Line]) -> bool
+    ensures { result ≡ list_all spec.is_done (map line_view lines.now) }
+{
+    for line in lines {
+        if !is_done(line) {
+            return false;
+        }
+    }
+    true
+}
+
+/// The exit status of the outcome, where its text was written.
+pub fn status_of(outcome: &Outcome) -> u8
+    ensures { result ≡ spec.status_of (outcome_view outcome.now) }
+{
+    match outcome {
+        Outcome::Usage => 2,
+        Outcome::ChainsRefused => 3,
+        Outcome::StoreFault => 4,
+        Outcome::NoMemory => 6,
+        Outcome::Reported(lines) => { if all_done(lines) { 0 } else { 1 } }
+    }
+}

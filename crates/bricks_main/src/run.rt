@@ -1,0 +1,101 @@
+//! The top calls.
+ghost use Rattle.std.specs.Prelude.{◌≡◌, ◌≢◌, ◌≤◌, ◌↔◌, List, ℕ, IsTrue, map, string_bytes, codes};
+ghost use Rattle.brick_spec.specs.Cause.{Rose};
+ghost use Rattle.brick_spec.specs.CommandLine.{IsLineOf};
+ghost use Rattle.brick_spec.specs.Files.{AppendsFront};
+ghost use Rattle.brick_spec.specs.Report.{Usage, HasReport};
+ghost use Rattle.brick_spec.specs.Promise.{seen, Told, Shown, CommandLinePromise, UsagePromise, InlinePromises};
+ghost use Rattle.bricks_main.specs.View.{outcome_view};
+
+use crate::command_line::read_words;
+use crate::inline::run_files;
+use crate::report::{Outcome, outcome_text, status_of};
+use std::alloc::Global;
+use store_io::{IoFault, Sink, Store};
+
+/// Whether the outcome is a report of the tenants.
+fn has_report(outcome: &Outcome) -> bool
+    ensures { IsTrue result ↔ HasReport (outcome_view outcome.now) }
+{
+    matches!(outcome, Outcome::Reported(_))
+}
+
+/// Tells that memory ran out. The answer is the exit status 6.
+pub fn tell_no_memory<P: Sink>(sink: &mut P) -> u8
+    ensures status { result ≡ 6 }
+    ensures shown { IsTrue P.tells → AppendsFront (codes "out of memory\n") (P.written sink.old) (P.written sink.new) }
+{
+    match sink.write(b"out of memory\n") {
+        Ok(()) | Err(IoFault::Failed) | Err(IoFault::NoMemory) => 6,
+    }
+}
+
+/// Tells the outcome by its text. A report whose write fails gives 5, and want of memory 6.
+fn tell<P: Sink>(alloc: Global, sink: &mut P, outcome: &Outcome) -> u8
+    ensures told { Told (outcome_view outcome.now) result }
+    ensures fault { result ≡ 5 → Rose (P.faults sink.old) (P.faults sink.new) }
+    ensures shown { IsTrue P.tells → Shown (outcome_view outcome.now) (P.written sink.old) (P.written sink.new) (P.faults sink.old) (P.faults sink.new) result }
+{
+    let Ok(text) = outcome_text(alloc, outcome) else {
+        return tell_no_memory(sink);
+    };
+    match sink.write(text.as_bytes()) {
+        Ok(()) => status_of(outcome),
+        Err(IoFault::NoMemory) => 6,
+        Err(IoFault::Failed) => {
+            if has_report(outcome) {
+                5
+            } else {
+                status_of(outcome)
+            }
+        }
+    }
+}
+
+/// Tells how the program is used, for words that are no line. The answer is the exit status 2, or 6 where memory ran out.
+pub fn tell_usage<P: Sink>(alloc: Global, sink: &mut P) -> u8
+    ensures told { Told Usage result }
+    ensures shown { IsTrue P.tells → Shown Usage (P.written sink.old) (P.written sink.new) (P.faults sink.old) (P.faults sink.new) result }
+{
+    tell(alloc, sink, &Outcome::Usage)
+}
+
+/// Runs the tenant of the chain file `chains`, writes its files into the folder `out_dir`, and gives the report to `out`.
+/// The answer is the exit status.
+pub fn run_inline<S: Store, P: Sink>(
+    alloc: Global,
+    chains: &str,
+    out_dir: &str,
+    store: &mut S,
+    out: &mut P,
+) -> u8
+    ensures { InlinePromises (IsTrue S.tells) (IsTrue P.tells) chains.now out_dir.now
+        (seen (S.file store.old) (S.faults store.old) (P.written out.old) (P.faults out.old))
+        (seen (S.file store.new) (S.faults store.new) (P.written out.new) (P.faults out.new)) result }
+{
+    let outcome = run_files(alloc, store, chains, out_dir);
+    tell(alloc, out, &outcome)
+}
+
+/// Does what the words say, which are those after the program's name. The answer is the exit status.
+pub fn run_words<S: Store, P: Sink>(
+    alloc: Global,
+    words: &[String],
+    store: &mut S,
+    out: &mut P,
+) -> u8
+    ensures command_line { CommandLinePromise (IsTrue S.tells) (map string_bytes words.now)
+        (seen (S.file store.old) (S.faults store.old) (P.written out.old) (P.faults out.old))
+        (seen (S.file store.new) (S.faults store.new) (P.written out.new) (P.faults out.new)) result }
+    ensures usage { IsTrue P.tells → UsagePromise
+        (seen (S.file store.old) (S.faults store.old) (P.written out.old) (P.faults out.old))
+        (seen (S.file store.new) (S.faults store.new) (P.written out.new) (P.faults out.new)) result }
+    ensures inline { (chains out_dir : List ℕ) → IsLineOf chains out_dir (map string_bytes words.now) → InlinePromises (IsTrue S.tells) (IsTrue P.tells) chains out_dir
+        (seen (S.file store.old) (S.faults store.old) (P.written out.old) (P.faults out.old))
+        (seen (S.file store.new) (S.faults store.new) (P.written out.new) (P.faults out.new)) result }
+{
+    match read_words(words) {
+        Some(line) => run_inline(alloc, line.chains, line.out, store, out),
+        None => tell_usage(alloc, out),
+    }
+}

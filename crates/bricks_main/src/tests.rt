@@ -1,0 +1,358 @@
+//! The worked examples of a run, over a store and a sink in memory.
+use crate::run::run_words;
+use std::alloc::Global;
+use std::test::Fail;
+use store_io::{MemSink, MemStore};
+
+/// The file header of a capture, little-endian with microseconds.
+const HEADER: [u8; 24] = [
+    0xd4, 0xc3, 0xb2, 0xa1, 0x02, 0x00, 0x04, 0x00, 0x00, 0x00, 0x00, 0x00, 0x00, 0x00, 0x00, 0x00,
+    0x00, 0x00, 0x04, 0x00, 0x01, 0x00, 0x00, 0x00,
+];
+
+/// The head of a record with seconds 1, fraction 2 and 46 bytes.
+const HEAD: [u8; 16] = [
+    0x01, 0x00, 0x00, 0x00, 0x02, 0x00, 0x00, 0x00, 0x2e, 0x00, 0x00, 0x00, 0x2e, 0x00, 0x00, 0x00,
+];
+
+/// A frame: UDP from 10.0.0.1:1000 to 10.1.2.3:53 with the payload `ping`, time to live 64.
+const FRAME: [u8; 46] = [
+    0x02, 0x00, 0x00, 0x00, 0x00, 0x01, 0x02, 0x00, 0x00, 0x00, 0x00, 0x02, 0x08, 0x00, 0x45, 0x00,
+    0x00, 0x20, 0x00, 0x00, 0x40, 0x00, 0x40, 0x11, 0x24, 0xc9, 0x0a, 0x00, 0x00, 0x01, 0x0a, 0x01,
+    0x02, 0x03, 0x03, 0xe8, 0x00, 0x35, 0x00, 0x0c, 0x06, 0xe4, 0x70, 0x69, 0x6e, 0x67,
+];
+
+/// The same frame with a time to live of 63.
+const LOWERED: [u8; 46] = [
+    0x02, 0x00, 0x00, 0x00, 0x00, 0x01, 0x02, 0x00, 0x00, 0x00, 0x00, 0x02, 0x08, 0x00, 0x45, 0x00,
+    0x00, 0x20, 0x00, 0x00, 0x40, 0x00, 0x3f, 0x11, 0x25, 0xc9, 0x0a, 0x00, 0x00, 0x01, 0x0a, 0x01,
+    0x02, 0x03, 0x03, 0xe8, 0x00, 0x35, 0x00, 0x0c, 0x06, 0xe4, 0x70, 0x69, 0x6e, 0x67,
+];
+
+/// The file header of a capture, big-endian with nanoseconds, and the head of a record of 46 bytes.
+const FOREIGN: [u8; 40] = [
+    0xa1, 0xb2, 0x3c, 0x4d, 0x00, 0x02, 0x00, 0x04, 0x00, 0x00, 0x00, 0x00, 0x00, 0x00, 0x00, 0x00,
+    0x00, 0x00, 0xff, 0xff, 0x00, 0x00, 0x00, 0x01, 0x00, 0x00, 0x00, 0x01, 0x00, 0x00, 0x00, 0x02,
+    0x00, 0x00, 0x00, 0x2e, 0x00, 0x00, 0x00, 0x2e,
+];
+
+const UDP_CHAINS: &str =
+    "version = 1\n[[tenant]]\nname = \"a\"\ncapture = \"a.pcap\"\nstages = [{ stage = \"ttl\" }, { stage = \"only\", match = { proto = \"udp\" } }]\n[[tenant.group]]\nname = \"g\"\n";
+
+const TCP_CHAINS: &str =
+    "version = 1\n[[tenant]]\nname = \"a\"\ncapture = \"a.pcap\"\nstages = [{ stage = \"ttl\" }, { stage = \"only\", match = { proto = \"tcp\" } }]\n[[tenant.group]]\nname = \"g\"\n";
+
+const COLLIDING_CHAINS: &str =
+    "version = 1\n[[tenant]]\nname = \"a\"\ncapture = \"out/a.g.pcap\"\nstages = [{ stage = \"ttl\" }, { stage = \"only\", match = { proto = \"udp\" } }]\n[[tenant.group]]\nname = \"g\"\n";
+
+/// How many records there are, were accepted, are Big, and were dropped by `only`, and how many items the output has.
+fn done_line(
+    alloc: Global,
+    records: u32,
+    accepted: u32,
+    big: u32,
+    filter: u32,
+    items: u32,
+) -> Result<String, Fail> {
+    let line = format!(in alloc;
+        "a done records={records} accepted={accepted} refused=0 Big={big} Unparsed=0 Fire=0 NoRoute=0 Ttl=0 NatFull=0 Filter={filter} NoGroup=0 Reach=0 /g={items}\n"
+    )?;
+    Ok(line)
+}
+
+/// What a run left: the answer, the text in the sink, and the files of the run.
+#[derive(Drop)]
+struct Ended {
+    status: u8,
+    told: Vec<u8>,
+    output: Option<Vec<u8>>,
+    refused: Option<Vec<u8>>,
+}
+
+fn copied(alloc: Global, bytes: Option<&[u8]>) -> Result<Option<Vec<u8>>, Fail> {
+    match bytes {
+        None => Ok(None),
+        Some(bytes) => Ok(Some(bytes.to_vec(alloc)?)),
+    }
+}
+
+/// Runs the words over a store with a chain file and a capture, whose listed calls fail.
+fn run(
+    alloc: Global,
+    words: &[&str],
+    chains: &str,
+    capture: &[u8],
+    fails: Vec<u32>,
+    sink_fails: Vec<u32>,
+) -> Result<Ended, Fail> {
+    let mut line = Vec::new(alloc);
+    for word in words {
+        line.push(String::from_str(alloc, word)?)?;
+    }
+    let mut files = Vec::new(alloc);
+    files.push((
+        String::from_str(alloc, "c.toml")?,
+        chains.as_bytes().to_vec(alloc)?,
+    ))?;
+    files.push((String::from_str(alloc, "a.pcap")?, capture.to_vec(alloc)?))?;
+    let mut store = MemStore::new(alloc, files, fails)?;
+    let mut sink = MemSink::new(alloc, sink_fails);
+    let status = run_words(alloc, &line, &mut store, &mut sink);
+    Ok(Ended {
+        status,
+        told: sink.bytes().to_vec(alloc)?,
+        output: copied(alloc, store.file("out/a.g.pcap"))?,
+        refused: copied(alloc, store.file("out/a.refused"))?,
+    })
+}
+
+/// The bytes of these parts, one after another.
+fn joined(alloc: Global, parts: &[&[u8]]) -> Result<Vec<u8>, Fail> {
+    let mut bytes = Vec::new(alloc);
+    for part in parts {
+        bytes.extend_from_slice(part)?;
+    }
+    Ok(bytes)
+}
+
+/// A capture of one frame.
+fn one_frame(alloc: Global) -> Result<Vec<u8>, Fail> {
+    joined(
+        alloc,
+        &[HEADER.as_slice(), HEAD.as_slice(), FRAME.as_slice()],
+    )
+}
+
+const INLINE: [&str; 3] = ["inline", "c.toml", "out"];
+
+#[test]
+fn the_first_path(rt: HostRuntime) -> Result<(), Fail> {
+    let alloc = rt.alloc();
+    let run = run(
+        alloc,
+        INLINE.as_slice(),
+        UDP_CHAINS,
+        &one_frame(alloc)?,
+        Vec::new(alloc),
+        Vec::new(alloc),
+    )?;
+    assert_eq!(rt; run.status, 0);
+    assert!(rt; run.told == done_line(alloc, 1, 1, 0, 0, 1)?.into_bytes());
+    assert!(rt;
+        run.output
+            == Some(joined(
+                alloc,
+                &[HEADER.as_slice(), HEAD.as_slice(), LOWERED.as_slice()]
+            )?)
+    );
+    assert!(rt; run.refused == Some(Vec::new(alloc)));
+    Ok(())
+}
+
+#[test]
+fn another_protocol(rt: HostRuntime) -> Result<(), Fail> {
+    let alloc = rt.alloc();
+    let run = run(
+        alloc,
+        INLINE.as_slice(),
+        TCP_CHAINS,
+        &one_frame(alloc)?,
+        Vec::new(alloc),
+        Vec::new(alloc),
+    )?;
+    assert_eq!(rt; run.status, 0);
+    assert!(rt; run.told == done_line(alloc, 1, 1, 0, 1, 0)?.into_bytes());
+    assert!(rt; run.output == Some(HEADER.to_vec(alloc)?));
+    Ok(())
+}
+
+#[test]
+fn the_empty_capture(rt: HostRuntime) -> Result<(), Fail> {
+    let alloc = rt.alloc();
+    let run = run(
+        alloc,
+        INLINE.as_slice(),
+        UDP_CHAINS,
+        HEADER.as_slice(),
+        Vec::new(alloc),
+        Vec::new(alloc),
+    )?;
+    assert_eq!(rt; run.status, 0);
+    assert!(rt; run.told == done_line(alloc, 0, 0, 0, 0, 0)?.into_bytes());
+    assert!(rt; run.output == Some(HEADER.to_vec(alloc)?));
+    Ok(())
+}
+
+#[test]
+fn the_foreign_resolution_capture(rt: HostRuntime) -> Result<(), Fail> {
+    let alloc = rt.alloc();
+    let capture = joined(alloc, &[FOREIGN.as_slice(), FRAME.as_slice()])?;
+    let run = run(
+        alloc,
+        INLINE.as_slice(),
+        UDP_CHAINS,
+        &capture,
+        Vec::new(alloc),
+        Vec::new(alloc),
+    )?;
+    assert_eq!(rt; run.status, 1);
+    assert!(rt; run.told == b"a bad-capture 0 FirstForm\n".to_vec(alloc)?);
+    assert!(rt; run.output.is_none());
+    assert!(rt; run.refused.is_none());
+    Ok(())
+}
+
+#[test]
+fn words_that_are_no_line(rt: HostRuntime) -> Result<(), Fail> {
+    let alloc = rt.alloc();
+    let lines: [&[&str]; 5] = [
+        &["run", "c.toml", "out"],
+        &["inline", "c.toml"],
+        &["inline", "c.toml", "out", "x"],
+        &["inline", "-c", "out"],
+        &["inline", "c.toml", ""],
+    ];
+    for words in lines {
+        let run = run(
+            alloc,
+            words,
+            UDP_CHAINS,
+            &one_frame(alloc)?,
+            Vec::new(alloc),
+            Vec::new(alloc),
+        )?;
+        assert_eq!(rt; run.status, 2);
+        assert!(rt; run.told == b"usage: bricks [--workers N] MODE CHAINS OUT\n".to_vec(alloc)?);
+        assert!(rt; run.output.is_none());
+    }
+    Ok(())
+}
+
+#[test]
+fn chain_files_that_are_refused(rt: HostRuntime) -> Result<(), Fail> {
+    let alloc = rt.alloc();
+    for chains in [COLLIDING_CHAINS, "", "version = 1\n"] {
+        let run = run(
+            alloc,
+            INLINE.as_slice(),
+            chains,
+            &one_frame(alloc)?,
+            Vec::new(alloc),
+            Vec::new(alloc),
+        )?;
+        assert_eq!(rt; run.status, 3);
+        assert!(rt; run.told == b"chains: 0 FirstForm\n".to_vec(alloc)?);
+        assert!(rt; run.output.is_none());
+        assert!(rt; run.refused.is_none());
+    }
+    Ok(())
+}
+
+/// Whether the file is missing or holds a prefix of the text.
+fn may_hold(file: &Option<Vec<u8>>, text: &[u8]) -> bool {
+    match file {
+        None => true,
+        Some(bytes) => text.starts_with(bytes),
+    }
+}
+
+#[test]
+fn each_call_of_the_store_failing_in_turn(rt: HostRuntime) -> Result<(), Fail> {
+    let alloc = rt.alloc();
+    let capture = one_frame(alloc)?;
+    let whole = joined(
+        alloc,
+        &[HEADER.as_slice(), HEAD.as_slice(), LOWERED.as_slice()],
+    )?;
+    for call in 0..7u32 {
+        let run = run(
+            alloc,
+            INLINE.as_slice(),
+            UDP_CHAINS,
+            &capture,
+            vec![in alloc; call]?,
+            Vec::new(alloc),
+        )?;
+        assert_eq!(rt; run.status, 4);
+        assert!(rt; run.told == b"store-fault\n".to_vec(alloc)?);
+        assert!(rt; may_hold(&run.output, &whole));
+        assert!(rt; run.refused.is_none());
+        if call < 5 {
+            assert!(rt; run.output.is_none());
+        }
+        if call == 5 {
+            assert!(rt; run.output == Some(joined(alloc, &[whole.get(..43).ok_or("short")?])?));
+        }
+    }
+    let run = run(
+        alloc,
+        INLINE.as_slice(),
+        UDP_CHAINS,
+        &capture,
+        vec![in alloc; 7]?,
+        Vec::new(alloc),
+    )?;
+    assert_eq!(rt; run.status, 0);
+    Ok(())
+}
+
+#[test]
+fn the_write_of_the_report_failing(rt: HostRuntime) -> Result<(), Fail> {
+    let alloc = rt.alloc();
+    let whole = joined(
+        alloc,
+        &[HEADER.as_slice(), HEAD.as_slice(), LOWERED.as_slice()],
+    )?;
+    let run = run(
+        alloc,
+        INLINE.as_slice(),
+        UDP_CHAINS,
+        &one_frame(alloc)?,
+        Vec::new(alloc),
+        vec![in alloc; 0]?,
+    )?;
+    assert_eq!(rt; run.status, 5);
+    assert!(rt; run.output == Some(whole));
+    assert!(rt; run.refused == Some(Vec::new(alloc)));
+    let line = done_line(alloc, 1, 1, 0, 0, 1)?.into_bytes();
+    assert!(rt; line.starts_with(&run.told));
+    assert!(rt; run.told.len() < line.len());
+    Ok(())
+}
+
+#[test]
+fn a_record_that_is_big(rt: HostRuntime) -> Result<(), Fail> {
+    let alloc = rt.alloc();
+    let frame = vec![in alloc; 0u8; 65601]?;
+    let length = 65601u32.to_le_bytes();
+    let capture = joined(
+        alloc,
+        &[
+            HEADER.as_slice(),
+            &[0; 8],
+            length.as_slice(),
+            length.as_slice(),
+            &frame,
+            HEAD.as_slice(),
+            FRAME.as_slice(),
+        ],
+    )?;
+    let run = run(
+        alloc,
+        INLINE.as_slice(),
+        UDP_CHAINS,
+        &capture,
+        Vec::new(alloc),
+        Vec::new(alloc),
+    )?;
+    assert_eq!(rt; run.status, 0);
+    assert!(rt; run.told == done_line(alloc, 2, 1, 1, 0, 1)?.into_bytes());
+    assert!(rt;
+        run.output
+            == Some(joined(
+                alloc,
+                &[HEADER.as_slice(), HEAD.as_slice(), LOWERED.as_slice()]
+            )?)
+    );
+    Ok(())
+}

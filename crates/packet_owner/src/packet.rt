@@ -1,0 +1,278 @@
+ghost use Rattle.std.specs.Prelude.{◌≡◌, ◌≤◌, ◌+◌, ◌++◌, [], ◌∷◌, length, drop, Some, None, IfOk, IfErr, OnErr};
+ghost use Rattle.std.specs.Borrow.{sem};
+ghost use Rattle.brick_spec.specs.Item.{item_of};
+ghost use Rattle.pcap_io.specs.View.{entry_view, item_view};
+ghost use Rattle.packet_owner.specs.Packet.{PacketModel, AreNested, IsWithin, place_view, here_of, header_of, payload_of, packet_item, parsed, deparsed};
+
+use crate::Buffer;
+use crate::place::Place;
+use arrayvec::ArrayVec;
+use brick_base::{NoMemory, Proto, Raw};
+use pcap_io::{Entry, Frame, Item};
+use std::alloc::Global;
+use std::marker::{Model, PhantomData};
+
+/// A frame in a buffer of its own, with its key, its times and its length on the link, read up to the layer `P`. The bytes of
+/// the buffer behind the frame mean nothing.
+#[derive(Drop)]
+pub struct Packet<P: Proto> {
+    slot: u32,
+    bytes: Vec<u8>,
+    // of the frame
+    len: usize,
+    a: u64,
+    j: u32,
+    seconds: u32,
+    fraction: u32,
+    original: u32,
+    // the outermost layer first
+    places: ArrayVec<Place, 8>,
+    layer: PhantomData<P>,
+}
+
+impl<P: Proto> Model for Packet<P> {
+    ghost use Rattle.std.specs.Prelude.{◌≡◌, ◌≤◌, ◌<◌, ◌^◌, length, take, vec_len, map, reverse};
+    ghost use Rattle.packet_owner.specs.Packet.{PacketModel, AreNested, place_view};
+
+    ghost Value = { PacketModel };
+
+    ghost view = { λ p. record { slot = p.slot; room = vec_len p.bytes; a = p.a; j = p.j; seconds = p.seconds; fraction = p.fraction; original = p.original; frame = take p.len p.bytes.items; layers = map place_view (reverse p.places.items) } };
+
+    ghost invariant = { λ p. (vec_len p.bytes < 2 ^ 32) × (p.len ≤ vec_len p.bytes) × (length p.places.items ≡ P.DEPTH) × AreNested (map place_view (reverse p.places.items)) p.len };
+}
+
+/// Writes the frame over the first bytes.
+fn fill_front(bytes: &mut [u8], frame: &[u8])
+    requires { length frame.now ≤ length bytes.old }
+    ensures { bytes.new ≡ frame.now ++ drop (length frame.now) bytes.old }
+{
+    bytes[..frame.len()].copy_from_slice(frame);
+}
+
+impl Packet<Raw> {
+    /// The packet of the record of this number, in the buffer, whose memory the packet keeps. The frame is copied.
+    pub fn fill(buffer: Buffer, number: u32, entry: Entry<'_>) -> Packet<Raw>
+        requires { length entry.frame.now ≤ buffer.room }
+        ensures item { packet_item result ≡ item_of number (entry_view entry.entry) }
+        ensures slot { result.slot ≡ buffer.slot }
+        ensures room { result.room ≡ buffer.room }
+        ensures layers { result.layers ≡ [] }
+    {
+        let Buffer { slot, mut bytes } = buffer;
+        let len = entry.frame.len();
+        fill_front(&mut bytes, entry.frame);
+        Packet {
+            slot,
+            bytes,
+            len,
+            a: number as u64,
+            j: 0,
+            seconds: entry.seconds,
+            fraction: entry.fraction,
+            original: entry.original,
+            places: ArrayVec::new(),
+            layer: PhantomData,
+        }
+    }
+}
+
+impl<P: Proto> Packet<P> {
+    ghost use Rattle.packet_owner.specs.Lends.{LendsHeader, LendsPayload};
+
+    /// Where its layer stands.
+    #[tactic(auto, using(crate::proofs::Layers::innermost_within))]
+    fn here(&self) -> Place
+        ensures value { place_view result ≡ here_of self.now }
+        ensures within { IsWithin (place_view result) (length self.now.frame) }
+    {
+        match self.places.last() {
+            None => Place {
+                start: 0,
+                middle: 0,
+                end: self.len,
+            },
+            Some(place) => *place,
+        }
+    }
+
+    /// The header of its layer: of a packet of which no layer was read, no bytes.
+    pub fn header(&self) -> &[u8]
+        ensures value { result.now ≡ header_of self.now }
+        ensures layers { length self.now.layers ≡ P.DEPTH }
+    {
+        let here = self.here();
+        &self.bytes[here.start..here.middle]
+    }
+
+    /// The header of its layer, to be written. What is written stands in the frame, and nothing else changes: no layer moves.
+    pub fn header_mut(&mut self) -> &mut [u8]
+        ensures* writes_back { sem 𝓛 (LendsHeader P.row P.Prev.row P.Proto self.entry result) }
+        ensures value { result.now ≡ header_of self.old }
+        ensures layers { length self.old.layers ≡ P.DEPTH }
+    {
+        let here = self.here();
+        self.bytes.slice_mut(here.start..here.middle)
+    }
+
+    /// The payload of its layer: of a packet of which no layer was read, the frame.
+    pub fn payload(&self) -> &[u8]
+        ensures value { result.now ≡ payload_of self.now }
+        ensures layers { length self.now.layers ≡ P.DEPTH }
+    {
+        let here = self.here();
+        &self.bytes[here.middle..here.end]
+    }
+
+    /// The payload of its layer, to be written. What is written stands in the frame, and nothing else changes.
+    pub fn payload_mut(&mut self) -> &mut [u8]
+        ensures* writes_back { sem 𝓛 (LendsPayload P.row P.Prev.row P.Proto self.entry result) }
+        ensures value { result.now ≡ payload_of self.old }
+        ensures layers { length self.old.layers ≡ P.DEPTH }
+    {
+        let here = self.here();
+        self.bytes.slice_mut(here.middle..here.end)
+    }
+
+    /// Reads the next layer. Where it is not there the packet comes back.
+    #[tactic(auto, using(crate::proofs::Layers::length_given))]
+    pub fn parse<Q: Proto<Prev = P>>(self) -> Result<Packet<Q>, Packet<P>>
+        requires { Q.DEPTH ≡ P.DEPTH + 1 }
+        ensures ok { IfOk result (λ q. parsed Q.length_of Q.extent_of self ≡ Some q) }
+        ensures given { IfOk result (λ q. Q.length_of (header_of self) (payload_of self) ≡ Some (length (header_of q))) }
+        ensures least { IfOk result (λ q. Q.LEAST ≤ length (header_of q)) }
+        ensures layers { length self.layers ≡ P.DEPTH }
+        ensures err { IfErr result (λ p. p ≡ self) }
+        ensures absent { OnErr result (Q.length_of (header_of self) (payload_of self) ≡ None) }
+    {
+        let here = self.here();
+        match Q::length(self.header(), self.payload()) {
+            None => Err(self),
+            Some(n) => {
+                let middle = here.middle + n;
+                let room = here.end - here.middle;
+                let extent = Q::extent(&self.payload()[..n], room);
+                let place = Place {
+                    start: here.middle,
+                    middle,
+                    end: here.middle + extent,
+                };
+                Ok(self.with_place(place))
+            }
+        }
+    }
+
+    /// The packet with a further layer at this place.
+    fn with_place<Q: Proto>(self, place: Place) -> Packet<Q>
+        requires depth { Q.DEPTH ≡ P.DEPTH + 1 }
+        requires nested { AreNested (place_view place ∷ self.layers) (length self.frame) }
+        ensures { result ≡ record self { layers = place_view place ∷ self.layers } }
+    {
+        let Packet {
+            slot,
+            bytes,
+            len,
+            a,
+            j,
+            seconds,
+            fraction,
+            original,
+            mut places,
+            layer: _,
+        } = self;
+        places.push(place);
+        Packet {
+            slot,
+            bytes,
+            len,
+            a,
+            j,
+            seconds,
+            fraction,
+            original,
+            places,
+            layer: PhantomData,
+        }
+    }
+
+    /// Back to the layer before.
+    pub fn deparse<O: Proto>(self) -> Packet<O>
+    where
+        P: Proto<Prev = O>,
+        requires { P.DEPTH ≡ O.DEPTH + 1 }
+        ensures { result ≡ deparsed self }
+    {
+        let Packet {
+            slot,
+            bytes,
+            len,
+            a,
+            j,
+            seconds,
+            fraction,
+            original,
+            mut places,
+            layer: _,
+        } = self;
+        let _innermost = places.pop();
+        Packet {
+            slot,
+            bytes,
+            len,
+            a,
+            j,
+            seconds,
+            fraction,
+            original,
+            places,
+            layer: PhantomData,
+        }
+    }
+
+    /// Its key: the number of the record that it comes from, and its place among the items of that record.
+    pub fn key(&self) -> (u64, u32)
+        ensures { result ≡ (self.now.a, self.now.j) }
+    {
+        (self.a, self.j)
+    }
+
+    /// The number of its buffer.
+    pub fn slot(&self) -> u32
+        ensures { result ≡ self.now.slot }
+    {
+        self.slot
+    }
+
+    /// The item of the packet, with a copy of its frame.
+    pub fn item(&self, alloc: Global) -> Result<Item, NoMemory>
+        ensures { IfOk result (λ i. item_view i ≡ packet_item self.now) }
+    {
+        let frame = self.bytes[..self.len].to_vec(alloc)?;
+        Ok(Item {
+            a: self.a,
+            j: self.j,
+            seconds: self.seconds,
+            fraction: self.fraction,
+            original: self.original,
+            frame: Frame::of(frame),
+        })
+    }
+
+    /// Its buffer. The frame is given up.
+    pub fn into_buffer(self) -> Buffer
+        ensures { result ≡ record { slot = self.slot; room = self.room } }
+    {
+        let Packet {
+            slot,
+            bytes,
+            len: _,
+            a: _,
+            j: _,
+            seconds: _,
+            fraction: _,
+            original: _,
+            places: _,
+            layer: _,
+        } = self;
+        Buffer { slot, bytes }
+    }
+}
