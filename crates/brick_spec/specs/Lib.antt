@@ -18,3 +18,4 @@ pub mod Cause
 pub mod Files
 pub mod Texts
 pub mod Promise
+pub mod Balance

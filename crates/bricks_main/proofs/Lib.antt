@@ -7,5 +7,6 @@ pub mod Promises
 pub mod Quotations
 pub mod Rows
 pub mod Runs
+pub mod SplitRecords
 pub mod TakeRecord
 pub mod TextLists

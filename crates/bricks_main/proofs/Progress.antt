@@ -153,31 +153,31 @@ filter_none : (p : Item → Bool) (i : Item) → p i ≡ false → filter p (i �
 filter_none p i h = ap (λ b. cond b (i ∷ []) []) h
 
 -- the items of the records that are not Big
-abbrev fits : Chain → Item → Bool
+abbrev pub fits : Chain → Item → Bool
 fits chain i = nat_le (length i.frame) chain.bytes
 
-abbrev too_big : Chain → Item → Bool
+abbrev pub too_big : Chain → Item → Bool
 too_big chain i = nat_lt chain.bytes (length i.frame)
 
-not_too_big : (m n : ℕ) → m ≤ n → nat_lt n m ≡ false
+pub not_too_big : (m n : ℕ) → m ≤ n → nat_lt n m ≡ false
 not_too_big m n h = grind (arith, nat_tests)
 
-is_fit : (m n : ℕ) → m ≤ n → nat_le m n ≡ true
+pub is_fit : (m n : ℕ) → m ≤ n → nat_le m n ≡ true
 is_fit m n h = grind (arith, nat_tests)
 
-is_too_big : (m n : ℕ) → n < m → nat_lt n m ≡ true
+pub is_too_big : (m n : ℕ) → n < m → nat_lt n m ≡ true
 is_too_big m n h = grind (arith, nat_tests)
 
-is_no_fit : (m n : ℕ) → n < m → nat_le m n ≡ false
+pub is_no_fit : (m n : ℕ) → n < m → nat_le m n ≡ false
 is_no_fit m n h = grind (arith, nat_tests)
 
 -- what a test keeps of one item more
-kept_more : (p : Item → Bool) (c : Contents) (k : ℕ) (e : Entry) → slice_get c.entries k ≡ Some e → p (item_of k e) ≡ true
+pub kept_more : (p : Item → Bool) (c : Contents) (k : ℕ) (e : Entry) → slice_get c.entries k ≡ Some e → p (item_of k e) ≡ true
     → filter p (items_of (first (k + 1) c)) ≡ filter p (items_of (first k c)) ++ item_of k e ∷ []
 kept_more p c k e h stays =
     ap (filter p) (items_first c k e h) ∙ (filter-append p (items_of (first k c)) (item_of k e ∷ []) ∙ ap (λ l. filter p (items_of (first k c)) ++ l) (filter_one p (item_of k e) stays))
 
-kept_same : (p : Item → Bool) (c : Contents) (k : ℕ) (e : Entry) → slice_get c.entries k ≡ Some e → p (item_of k e) ≡ false
+pub kept_same : (p : Item → Bool) (c : Contents) (k : ℕ) (e : Entry) → slice_get c.entries k ≡ Some e → p (item_of k e) ≡ false
     → filter p (items_of (first (k + 1) c)) ≡ filter p (items_of (first k c))
 kept_same p c k e h goes =
     ap (filter p) (items_first c k e h) ∙ (filter-append p (items_of (first k c)) (item_of k e ∷ [])

@@ -1,5 +1,6 @@
 pub mod View
 pub mod ChainFile
+pub mod Plain
 pub mod Progress
 pub mod ProgressView
 pub mod Row

@@ -59,7 +59,7 @@ fn keep_only(protocol: Protocol, frame: &[u8]) -> Option<Reason>
 }
 
 /// Applies a stage to a frame in place. A frame that is dropped is not used again.
-fn apply_stage(stage: Stage, frame: &mut [u8]) -> Option<Reason>
+pub fn apply_stage(stage: Stage, frame: &mut [u8]) -> Option<Reason>
     ensures { (i : Item) → i.frame ≡ frame.old → stage_of (stage_view stage) i ≡ with_frame i frame.new result }
 {
     match stage {

@@ -9,6 +9,7 @@ pub mod chain_file;
 pub mod command_line;
 pub mod frames;
 pub mod inline;
+pub mod plain;
 pub mod report;
 pub mod run;
 pub mod tenant;

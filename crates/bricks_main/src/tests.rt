@@ -1,6 +1,11 @@
 //! The worked examples of a run, over a store and a sink in memory.
+use crate::chain_file::read_chain_file;
+use crate::plain::{Made, plain_made};
 use crate::run::run_words;
+use brick_base::{NoMemory, Reason};
+use pcap_io::{Capture, Writer};
 use std::alloc::Global;
+use std::process::Abort;
 use std::test::Fail;
 use store_io::{MemSink, MemStore};
 
@@ -355,4 +360,161 @@ fn a_record_that_is_big(rt: HostRuntime) -> Result<(), Fail> {
             )?)
     );
     Ok(())
+}
+
+/// How often the reason stands in the list.
+fn count(reasons: &[Reason], reason: Reason) -> usize {
+    let mut count = 0usize;
+    for other in reasons {
+        if *other == reason {
+            count = count.saturating_add(1);
+        }
+    }
+    count
+}
+
+/// The line of the plain function's counts.
+fn plain_line(alloc: Global, records: u32, made: &Made) -> Result<String, Fail> {
+    let big = count(&made.dropped, Reason::Big);
+    let ttl = count(&made.dropped, Reason::Ttl);
+    let filter = count(&made.dropped, Reason::Filter);
+    let accepted = (records as usize).saturating_sub(big);
+    let items = made.items.len();
+    let line = format!(in alloc;
+        "a done records={records} accepted={accepted} refused=0 Big={big} Unparsed=0 Fire=0 NoRoute=0 Ttl={ttl} NatFull=0 Filter={filter} NoGroup=0 Reach=0 /g={items}\n"
+    )?;
+    Ok(line)
+}
+
+/// The capture of the plain function's items.
+fn plain_output(alloc: Global, made: &Made) -> Result<Vec<u8>, Fail> {
+    let mut writer = Writer::new(alloc, false)?;
+    for item in &made.items {
+        if item.frame.as_slice().len() > 262144 {
+            return Err("an item is too long".into());
+        }
+        writer.append(item)?;
+    }
+    Ok(writer.into_bytes())
+}
+
+/// A capture of the frame with one byte changed, then with another.
+fn edited_frames(alloc: Global, edits: &[(usize, u8)]) -> Result<Vec<u8>, Fail> {
+    let mut capture = HEADER.to_vec(alloc)?;
+    for (at, byte) in edits {
+        let mut frame = FRAME;
+        if let Some(place) = frame.get_mut(*at) {
+            *place = *byte;
+        }
+        capture.extend_from_slice(HEAD.as_slice())?;
+        capture.extend_from_slice(frame.as_slice())?;
+    }
+    Ok(capture)
+}
+
+/// Compares a run with the plain function of the tenant meaning.
+fn agree(rt: &impl Abort, alloc: Global, chains: &str, capture: &[u8]) -> Result<(), Fail> {
+    let ended = run(
+        alloc,
+        INLINE.as_slice(),
+        chains,
+        capture,
+        Vec::new(alloc),
+        Vec::new(alloc),
+    )?;
+    let chain = read_chain_file(alloc, chains.as_bytes(), "c.toml", "out")?.ok_or("no chain")?;
+    if capture.len() > 33554432 {
+        return Err("the capture is too long".into());
+    }
+    let read = Capture::read(alloc, capture.to_vec(alloc)?)
+        .ok()
+        .ok_or("no capture")?;
+    let made = plain_made(alloc, &chain, &read)?;
+    assert_eq!(rt; ended.status, 0);
+    assert!(rt; ended.told == plain_line(alloc, read.count(), &made)?.into_bytes());
+    assert!(rt; ended.output == Some(plain_output(alloc, &made)?));
+    Ok(())
+}
+
+#[test]
+fn runs_agree_with_the_plain_meaning(rt: HostRuntime) -> Result<(), Fail> {
+    let alloc = rt.alloc();
+    // times to live 0, 1, 2 and 255; protocols 6, 1 and 0; version 6; a type that is not IPv4; a total length below the header's
+    let edits = [
+        (22, 0),
+        (22, 1),
+        (22, 2),
+        (22, 255),
+        (23, 6),
+        (23, 1),
+        (23, 0),
+        (14, 0x65),
+        (12, 0x86),
+        (17, 19),
+    ];
+    let capture = edited_frames(alloc, edits.as_slice())?;
+    agree(&rt, alloc, UDP_CHAINS, &capture)?;
+    agree(&rt, alloc, TCP_CHAINS, &capture)?;
+    agree(&rt, alloc, UDP_CHAINS, &one_frame(alloc)?)?;
+    agree(&rt, alloc, UDP_CHAINS, HEADER.as_slice())?;
+    Ok(())
+}
+
+/// The report and the output of the first path, as they are told without taking memory.
+const TOLD: &[u8] =
+    b"a done records=1 accepted=1 refused=0 Big=0 Unparsed=0 Fire=0 NoRoute=0 Ttl=0 NatFull=0 Filter=0 NoGroup=0 Reach=0 /g=1\n";
+
+/// The output of the first path.
+const OUTPUT: [u8; 86] = [
+    0xd4, 0xc3, 0xb2, 0xa1, 0x02, 0x00, 0x04, 0x00, 0x00, 0x00, 0x00, 0x00, 0x00, 0x00, 0x00, 0x00,
+    0x00, 0x00, 0x04, 0x00, 0x01, 0x00, 0x00, 0x00, 0x01, 0x00, 0x00, 0x00, 0x02, 0x00, 0x00, 0x00,
+    0x2e, 0x00, 0x00, 0x00, 0x2e, 0x00, 0x00, 0x00, 0x02, 0x00, 0x00, 0x00, 0x00, 0x01, 0x02, 0x00,
+    0x00, 0x00, 0x00, 0x02, 0x08, 0x00, 0x45, 0x00, 0x00, 0x20, 0x00, 0x00, 0x40, 0x00, 0x3f, 0x11,
+    0x25, 0xc9, 0x0a, 0x00, 0x00, 0x01, 0x0a, 0x01, 0x02, 0x03, 0x03, 0xe8, 0x00, 0x35, 0x00, 0x0c,
+    0x06, 0xe4, 0x70, 0x69, 0x6e, 0x67,
+];
+
+/// The words of the first path, where there is memory for them.
+fn first_words(alloc: Global) -> Result<Vec<String>, NoMemory> {
+    let mut words = Vec::new(alloc);
+    for word in INLINE {
+        words.push(String::from_str(alloc, word)?)?;
+    }
+    Ok(words)
+}
+
+/// The store of the first path, where there is memory for it.
+fn first_store(alloc: Global) -> Result<MemStore, NoMemory> {
+    let mut capture = HEADER.to_vec(alloc)?;
+    capture.extend_from_slice(HEAD.as_slice())?;
+    capture.extend_from_slice(FRAME.as_slice())?;
+    let mut files = Vec::new(alloc);
+    files.push((
+        String::from_str(alloc, "c.toml")?,
+        UDP_CHAINS.as_bytes().to_vec(alloc)?,
+    ))?;
+    files.push((String::from_str(alloc, "a.pcap")?, capture))?;
+    MemStore::new(alloc, files, Vec::new(alloc))
+}
+
+/// Whatever allocation is refused, the run is as with ample memory, or answers 6 with files that are missing or prefixes.
+#[test]
+fn memory_may_be_refused(rt: HostRuntime) {
+    let alloc = rt.alloc();
+    let (Ok(words), Ok(mut store)) = (first_words(alloc), first_store(alloc)) else {
+        return;
+    };
+    let mut sink = MemSink::new(alloc, Vec::new(alloc));
+    let status = run_words(alloc, &words, &mut store, &mut sink);
+    let output = store.file("out/a.g.pcap");
+    let refused = store.file("out/a.refused");
+    if status == 0 {
+        assert!(&rt; sink.bytes() == TOLD);
+        assert!(&rt; output == Some(OUTPUT.as_slice()));
+    } else {
+        assert_eq!(&rt; status, 6);
+        assert!(&rt; b"out of memory\n".starts_with(sink.bytes()));
+        assert!(&rt; OUTPUT.starts_with(output.unwrap_or(&[])));
+    }
+    assert!(&rt; refused.unwrap_or(&[]).is_empty());
 }

@@ -1,3 +1,4 @@
 pub mod Reading
 pub mod TextLaws
 pub mod View
+pub mod WorkedCapture

@@ -1,4 +1,10 @@
 ghost use Rattle.pcap_io.specs.TextLaws.{EachIsWholeOrFaulty, NoneIsWholeAndFaulty, FaultIsUnique, CaptureIsUnique, WrittenIsCapture};
+ghost use Rattle.pcap_io.specs.WorkedCapture.{ForeignIsWhole};
+
+/// A worked example: a big-endian capture with nanoseconds is whole by the definition.
+pub fn foreign_capture_is_whole()
+    ensures { ForeignIsWhole }
+{}
 
 /// A law: each list of bytes is a whole capture, or one of the faults stands.
 pub fn each_is_whole_or_faulty()

@@ -22,7 +22,7 @@ pub use entry::Entry;
 pub use fault::CaptureFault;
 pub use item::{Frame, Item, Items};
 pub use laws::{
-    capture_is_unique, each_is_whole_or_faulty, fault_is_unique, none_is_whole_and_faulty,
-    written_is_capture,
+    capture_is_unique, each_is_whole_or_faulty, fault_is_unique, foreign_capture_is_whole,
+    none_is_whole_and_faulty, written_is_capture,
 };
 pub use writer::Writer;

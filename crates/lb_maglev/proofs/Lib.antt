@@ -1,0 +1,5 @@
+pub mod Prime
+pub mod Searches
+pub mod ShareLemmas
+pub mod TurnLemmas
+pub mod WalkLemmas

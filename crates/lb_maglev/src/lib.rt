@@ -1,0 +1,16 @@
+//! The balance table: which backend has each of 251 places, after Maglev (Eisenbud and others, NSDI 2016, section 3.4).
+//!
+//! Each backend has an order of preference over the places, which its name gives. The backends take turns, in the order of
+//! the list, each taking its first preferred place that is still free, until all are taken. The shares of any two backends
+//! differ by at most one.
+#![tactic(auto)]
+
+mod hashes;
+pub mod plain;
+mod table;
+#[cfg(test)]
+mod tests;
+mod turns;
+mod walk;
+
+pub use table::Maglev;
