@@ -19,3 +19,4 @@ pub mod Files
 pub mod Texts
 pub mod Promise
 pub mod Balance
+pub mod Stream
