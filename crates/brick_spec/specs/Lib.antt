@@ -8,6 +8,8 @@ pub mod Layer
 pub mod Edit
 pub mod Item
 pub mod Stage
+pub mod Flow
+pub mod FlowStage
 pub mod Name
 pub mod Chain
 pub mod ChainFile
