@@ -1,0 +1,9 @@
+use Rattle.std.proofs.Common.{refl}
+use Rattle.clap.proofs.OnLiterals.{clap_on_literals}
+use Rattle.command_line.specs.Command.{rows}
+use Rattle.command_line.specs.Line.{number, line_in}
+use Rattle.command_line.proofs.samples.Goals as goal
+
+pub returns : goal.returns
+unfolding clap_on_literals rows number line_in
+returns c = record { inline = refl; check = refl; before = refl; after = refl; hyphen = refl; empty = refl; after_hyphens = refl; two_words = refl; four_words = refl; mode = refl; too_many = refl; no_workers = refl; leading_zero = refl; sign = refl; twice = refl; option = refl; help = refl; help_behind = refl }

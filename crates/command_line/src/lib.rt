@@ -1,0 +1,61 @@
+//! The words that the program is called with: `bricks [--workers N] MODE CHAINS OUT`, read with `clap`.
+#![tactic(auto)]
+
+ghost use Rattle.std.specs.Prelude.{◌≡◌, IfOk, map, option_map, string_bytes};
+ghost use Rattle.command_line.specs.Line.{line, line_view};
+ghost use Rattle.command_line.specs.Laws.{Samples, PlainWords};
+
+use brick_base::NoMemory;
+use std::alloc::Global;
+
+mod matches;
+mod rules;
+#[cfg(test)]
+mod tests;
+
+use matches::matches_of;
+use rules::line_in;
+
+/// What the program is to do.
+#[derive(Clone, Copy, Debug, PartialEq, Eq)]
+pub enum Mode {
+    /// Runs the tenants, and writes their files.
+    Inline,
+    /// Reads the chain file alone.
+    Check,
+}
+
+/// A line of the command.
+#[derive(Clone, Copy, Debug)]
+pub struct CommandLine<'a> {
+    pub mode: Mode,
+    /// How many workers there are, 1 to 16.
+    pub workers: u8,
+    /// The name of the chain file.
+    pub chains: &'a str,
+    /// The folder that is written to.
+    pub out: &'a str,
+}
+
+/// The line that the words after the program's name are, and none exactly where they are no line. A request for help is none.
+pub fn read_words<'a>(
+    alloc: Global,
+    words: &'a [String],
+) -> Result<Option<CommandLine<'a>>, NoMemory>
+    ensures { IfOk result (λ l. option_map line_view l ≡ line (map string_bytes words.now)) }
+{
+    match matches_of(alloc, words)? {
+        Some(matches) => Ok(line_in(&matches)),
+        None => Ok(None),
+    }
+}
+
+/// A law: some words that are a line, and some that are none.
+pub fn samples()
+    ensures { Samples }
+{}
+
+/// A law: three plain words behind `inline` are a line.
+pub fn plain_words()
+    ensures { PlainWords }
+{}

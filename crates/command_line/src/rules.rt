@@ -1,0 +1,91 @@
+//! Our rules on the command's matches.
+
+ghost use Rattle.std.specs.Prelude.{◌≡◌, option_map};
+ghost use Rattle.clap.specs.Words.{first_of, found_of, rows_of};
+ghost use Rattle.command_line.specs.Line as spec;
+
+use crate::{CommandLine, Mode};
+use clap::ArgMatches;
+
+/// The mode that a word names.
+fn mode_of(text: &str) -> Option<Mode>
+    ensures { result ≡ spec.mode_of text.now }
+{
+    if text == "inline" {
+        Some(Mode::Inline)
+    } else if text == "check" {
+        Some(Mode::Check)
+    } else {
+        None
+    }
+}
+
+/// The number with one more digit, where the character is one and the number stays below 2^64.
+fn with_digit(number: u64, character: u8) -> Option<u64>
+    ensures { result ≡ spec.with_digit number character }
+{
+    if character < b'0' || character > b'9' {
+        return None;
+    }
+    let tens = number.checked_mul(10)?;
+    tens.checked_add((character - b'0') as u64)
+}
+
+/// Whether more digits stand behind a zero.
+fn has_leading_zero(bytes: &[u8]) -> bool
+    ensures { result ≡ spec.has_leading_zero bytes.now }
+{
+    bytes.len() > 1 && bytes[0] == b'0'
+}
+
+/// The number that decimal digits spell, without sign or leading zero.
+#[tactic(auto, unfolding(crate::specs::Line::number))]
+fn number(text: &str) -> Option<u64>
+    ensures { result ≡ spec.number text.now }
+{
+    let bytes = text.as_bytes();
+    if bytes.is_empty() || has_leading_zero(bytes) {
+        return None;
+    }
+    let mut number: u64 = 0;
+    for character in bytes {
+        number = with_digit(number, *character)?;
+    }
+    Some(number)
+}
+
+/// The number of workers.
+fn workers_of(text: &str) -> Option<u8>
+    ensures { result ≡ spec.workers_of text.now }
+{
+    let number = number(text)?;
+    if number >= 1 && number <= 16 {
+        Some(number as u8)
+    } else {
+        None
+    }
+}
+
+/// The text of an argument.
+fn text_of<'a>(matches: &ArgMatches<'a>, id: &str) -> Option<&'a str>
+    ensures { option_map (λ s. s.now) result ≡ first_of id.now (rows_of (found_of matches.now)) }
+{
+    matches.get_str(id)
+}
+
+/// The line that the matches are.
+#[tactic(auto, unfolding(crate::specs::Line::line_in))]
+pub(crate) fn line_in<'a>(matches: &ArgMatches<'a>) -> Option<CommandLine<'a>>
+    ensures { option_map spec.line_view result ≡ spec.line_in (rows_of (found_of matches.now)) }
+{
+    let mode = mode_of(text_of(matches, "MODE")?)?;
+    let workers = workers_of(text_of(matches, "workers")?)?;
+    let chains = text_of(matches, "CHAINS")?;
+    let out = text_of(matches, "OUT")?;
+    Some(CommandLine {
+        mode,
+        workers,
+        chains,
+        out,
+    })
+}
