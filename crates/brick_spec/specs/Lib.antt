@@ -25,3 +25,6 @@ pub mod Texts
 pub mod Promise
 pub mod Balance
 pub mod Stream
+pub mod FlowClass
+pub mod Route
+pub mod Firewall
