@@ -28,3 +28,4 @@ pub mod Stream
 pub mod FlowClass
 pub mod Route
 pub mod Firewall
+pub mod AcceptedWords

@@ -6,10 +6,10 @@ use Rattle.clap.specs.Kinds.{or_else}
 use Rattle.clap.specs.Walk.{Held, Step, Walk, after_step, arg_by_index, finished, idle, nothing_held, settled, to_positional, value, walk, walk_from, walked, word_met}
 use Rattle.clap.specs.Faults.{check_fault, defaults_fault, entered_fault, settle_fault, step_fault, turn_fault, walk_fault, word_fault}
 use Rattle.clap.proofs.OnLiterals.{clap_on_literals}
-use Rattle.command_line.specs.declared.Mode.TheVariants.{Inline}
-use Rattle.command_line.specs.Command.{bricks}
-use Rattle.command_line.specs.Line.{line, line_in, number, ◌>>=◌}
-use Rattle.command_line.proofs.Bricks.{rows_found}
+use Rattle.brick_spec.specs.AcceptedWords.{Inline}
+use Rattle.brick_spec.specs.AcceptedWords.{command}
+use Rattle.brick_spec.specs.AcceptedWords.{line_of, line_in, number, ◌>>=◌}
+use Rattle.command_line.proofs.ClapMatches.{rows_found}
 
 -- ---- one such word, at any command
 
@@ -44,7 +44,7 @@ no_words s w = refl
 -- ---- the three words
 
 abbrev shape : Shape
-shape = (built bricks).top
+shape = (built command).top
 
 abbrev rules : List Rule
 rules = shape.rules
@@ -89,8 +89,8 @@ whole x y xs ys hx hy =
 -- what a level's fault is, of the walk's fault and its end
 abbrev fault_by : Kinds → Walk → Kinds
 fault_by f w =
-    or_else f (or_else (entered_fault (built bricks) w.stopped) (or_else (settle_fault rules false w.held)
-    (or_else (defaults_fault (settled rules w.held).rows rules) (check_fault shape (finished rules w.held) (is_some (entered (built bricks) w.stopped))))))
+    or_else f (or_else (entered_fault (built command) w.stopped) (or_else (settle_fault rules false w.held)
+    (or_else (defaults_fault (settled rules w.held).rows rules) (check_fault shape (finished rules w.held) (is_some (entered (built command) w.stopped))))))
 
 no_walk_fault : (x y : ℕ) (xs ys : Text) → (x == 45) ≡ false → (y == 45) ≡ false
     → walk_fault shape [] (walk_from nothing_held) (words x xs y ys) ≡ []
@@ -108,7 +108,7 @@ no_walk_fault x y xs ys hx hy =
     ∙ ap₂ or_else first_turn (ap (λ (w : Walk). walk_fault shape [] w (c ∷ o ∷ [])) first ∙ rest2)
 
 fault_is : (x y : ℕ) (xs ys : Text)
-    → fault_of bricks (words x xs y ys)
+    → fault_of command (words x xs y ys)
     ≡ fault_by (walk_fault shape [] (walk_from nothing_held) (words x xs y ys)) (walk rules [] nothing_held (words x xs y ys))
 fault_is x y xs ys = refl
 
@@ -122,9 +122,9 @@ line_is c o = refl
 
 -- the line that three such words are
 pub plain_line : (x y : ℕ) (xs ys : Text) → (x == 45) ≡ false → (y == 45) ≡ false
-    → line (codes "inline" ∷ (x ∷ xs) ∷ (y ∷ ys) ∷ []) ≡ Some (record { mode = Inline; workers = 1; chains = x ∷ xs; out = y ∷ ys })
+    → line_of (codes "inline" ∷ (x ∷ xs) ∷ (y ∷ ys) ∷ []) ≡ Some (record { mode = Inline; workers = 1; chains = x ∷ xs; out = y ∷ ys })
 plain_line x y xs ys hx hy =
-    let none : fault_of bricks (words x xs y ys) ≡ [] =
+    let none : fault_of command (words x xs y ys) ≡ [] =
     fault_is x y xs ys ∙ ap₂ fault_by (no_walk_fault x y xs ys hx hy) (whole x y xs ys hx hy) ∙ end_fault (x ∷ xs) (y ∷ ys) in
     ap (λ (o : Option (List Row)). o >>= line_in) (rows_found (words x xs y ys) none)
     ∙ ap (λ (w : Walk). line_in (finished rules w.held)) (whole x y xs ys hx hy)

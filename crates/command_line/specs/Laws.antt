@@ -1,9 +1,7 @@
 -- Words that are a line, and words that are none.
 use Rattle.std.specs.Prelude.{false, ◌≡◌, ◌==◌, ℕ, List, [], ◌∷◌, Some, None, codes}
 use Rattle.clap.specs.Words.{Text}
-use Rattle.command_line.specs.declared.Mode.{Mode}
-use Rattle.command_line.specs.declared.Mode.TheVariants.{Inline, Check}
-use Rattle.command_line.specs.Line.{Line, line}
+use Rattle.brick_spec.specs.AcceptedWords.{Mode, Inline, Check, Line, line_of}
 
 abbrev line_with : Mode → ℕ → Text → Text → Line
 line_with mode workers chains out = record { mode = mode; workers = workers; chains = chains; out = out }
@@ -13,27 +11,27 @@ four a b c d = a ∷ b ∷ c ∷ d ∷ []
 
 pub record Samples : Type 0 where
   -- lines
-  pub inline : line (codes "inline" ∷ codes "c.toml" ∷ codes "out" ∷ []) ≡ Some (line_with Inline 1 (codes "c.toml") (codes "out"))
-  pub check : line (codes "--workers" ∷ four (codes "4") (codes "check") (codes "c.toml") (codes "out")) ≡ Some (line_with Check 4 (codes "c.toml") (codes "out"))
-  pub before : line (four (codes "--workers=16") (codes "inline") (codes "c.toml") (codes "out")) ≡ Some (line_with Inline 16 (codes "c.toml") (codes "out"))
-  pub after : line (four (codes "inline") (codes "c.toml") (codes "out") (codes "--workers=16")) ≡ Some (line_with Inline 16 (codes "c.toml") (codes "out"))
-  pub hyphen : line (codes "inline" ∷ codes "-" ∷ codes "out" ∷ []) ≡ Some (line_with Inline 1 (codes "-") (codes "out"))
-  pub empty : line (codes "inline" ∷ [] ∷ codes "out" ∷ []) ≡ Some (line_with Inline 1 [] (codes "out"))
-  pub after_hyphens : line (four (codes "--") (codes "inline") (codes "--help") (codes "out")) ≡ Some (line_with Inline 1 (codes "--help") (codes "out"))
+  pub inline : line_of (codes "inline" ∷ codes "c.toml" ∷ codes "out" ∷ []) ≡ Some (line_with Inline 1 (codes "c.toml") (codes "out"))
+  pub check : line_of (codes "--workers" ∷ four (codes "4") (codes "check") (codes "c.toml") (codes "out")) ≡ Some (line_with Check 4 (codes "c.toml") (codes "out"))
+  pub before : line_of (four (codes "--workers=16") (codes "inline") (codes "c.toml") (codes "out")) ≡ Some (line_with Inline 16 (codes "c.toml") (codes "out"))
+  pub after : line_of (four (codes "inline") (codes "c.toml") (codes "out") (codes "--workers=16")) ≡ Some (line_with Inline 16 (codes "c.toml") (codes "out"))
+  pub hyphen : line_of (codes "inline" ∷ codes "-" ∷ codes "out" ∷ []) ≡ Some (line_with Inline 1 (codes "-") (codes "out"))
+  pub empty : line_of (codes "inline" ∷ [] ∷ codes "out" ∷ []) ≡ Some (line_with Inline 1 [] (codes "out"))
+  pub after_hyphens : line_of (four (codes "--") (codes "inline") (codes "--help") (codes "out")) ≡ Some (line_with Inline 1 (codes "--help") (codes "out"))
   -- no lines
-  pub two_words : line (codes "inline" ∷ codes "c.toml" ∷ []) ≡ None
-  pub four_words : line (four (codes "inline") (codes "c.toml") (codes "out") (codes "more")) ≡ None
-  pub mode : line (codes "run" ∷ codes "c.toml" ∷ codes "out" ∷ []) ≡ None
-  pub too_many : line (codes "--workers" ∷ four (codes "17") (codes "inline") (codes "c.toml") (codes "out")) ≡ None
-  pub no_workers : line (codes "--workers" ∷ four (codes "0") (codes "inline") (codes "c.toml") (codes "out")) ≡ None
-  pub leading_zero : line (codes "--workers" ∷ four (codes "01") (codes "inline") (codes "c.toml") (codes "out")) ≡ None
-  pub sign : line (codes "--workers" ∷ four (codes "+1") (codes "inline") (codes "c.toml") (codes "out")) ≡ None
-  pub twice : line (codes "--workers" ∷ codes "3" ∷ codes "--workers" ∷ four (codes "4") (codes "inline") (codes "c.toml") (codes "out")) ≡ None
-  pub option : line (four (codes "--verbose") (codes "inline") (codes "c.toml") (codes "out")) ≡ None
-  pub help : line (codes "--help" ∷ []) ≡ None
-  pub help_behind : line (four (codes "inline") (codes "c.toml") (codes "out") (codes "-h")) ≡ None
+  pub two_words : line_of (codes "inline" ∷ codes "c.toml" ∷ []) ≡ None
+  pub four_words : line_of (four (codes "inline") (codes "c.toml") (codes "out") (codes "more")) ≡ None
+  pub mode : line_of (codes "run" ∷ codes "c.toml" ∷ codes "out" ∷ []) ≡ None
+  pub too_many : line_of (codes "--workers" ∷ four (codes "17") (codes "inline") (codes "c.toml") (codes "out")) ≡ None
+  pub no_workers : line_of (codes "--workers" ∷ four (codes "0") (codes "inline") (codes "c.toml") (codes "out")) ≡ None
+  pub leading_zero : line_of (codes "--workers" ∷ four (codes "01") (codes "inline") (codes "c.toml") (codes "out")) ≡ None
+  pub sign : line_of (codes "--workers" ∷ four (codes "+1") (codes "inline") (codes "c.toml") (codes "out")) ≡ None
+  pub twice : line_of (codes "--workers" ∷ codes "3" ∷ codes "--workers" ∷ four (codes "4") (codes "inline") (codes "c.toml") (codes "out")) ≡ None
+  pub option : line_of (four (codes "--verbose") (codes "inline") (codes "c.toml") (codes "out")) ≡ None
+  pub help : line_of (codes "--help" ∷ []) ≡ None
+  pub help_behind : line_of (four (codes "inline") (codes "c.toml") (codes "out") (codes "-h")) ≡ None
 
 -- Three words, the first `inline`, the others not empty and with no hyphen in front, are the line that they look like.
 abbrev pub PlainWords : Type 0
 PlainWords = (x y : ℕ) (xs ys : Text) → (x == 45) ≡ false → (y == 45) ≡ false
-    → line (codes "inline" ∷ (x ∷ xs) ∷ (y ∷ ys) ∷ []) ≡ Some (line_with Inline 1 (x ∷ xs) (y ∷ ys))
+    → line_of (codes "inline" ∷ (x ∷ xs) ∷ (y ∷ ys) ∷ []) ≡ Some (line_with Inline 1 (x ∷ xs) (y ∷ ys))

@@ -1,3 +1,2 @@
-pub mod Command
-pub mod Line
+pub mod View
 pub mod Laws

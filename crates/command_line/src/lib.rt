@@ -2,7 +2,8 @@
 #![tactic(auto)]
 
 ghost use Rattle.std.specs.Prelude.{◌≡◌, IfOk, map, option_map, string_bytes};
-ghost use Rattle.command_line.specs.Line.{line, line_view};
+ghost use Rattle.brick_spec.specs.AcceptedWords.{line_of};
+ghost use Rattle.command_line.specs.View.{line_view};
 ghost use Rattle.command_line.specs.Laws.{Samples, PlainWords};
 
 use brick_base::NoMemory;
@@ -42,7 +43,7 @@ pub fn read_words<'a>(
     alloc: Global,
     words: &'a [String],
 ) -> Result<Option<CommandLine<'a>>, NoMemory>
-    ensures { IfOk result (λ l. option_map line_view l ≡ line (map string_bytes words.now)) }
+    ensures { IfOk result (λ l. option_map line_view l ≡ line_of (map string_bytes words.now)) }
 {
     match matches_of(alloc, words)? {
         Some(matches) => Ok(line_in(&matches)),

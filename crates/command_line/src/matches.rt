@@ -2,7 +2,7 @@
 
 ghost use Rattle.std.specs.Prelude.{◌≡◌, IfOk, map, option_map, string_bytes};
 ghost use Rattle.clap.specs.Words.{app_of, found_of, rows_of};
-ghost use Rattle.command_line.specs.Command.{bricks, rows};
+ghost use Rattle.brick_spec.specs.AcceptedWords as spec;
 
 use brick_base::NoMemory;
 use clap::error::ErrorKind;
@@ -11,7 +11,7 @@ use std::alloc::{AllocError, Global};
 
 /// `bricks [--workers N] MODE CHAINS OUT`.
 fn command<'a>(alloc: Global) -> Result<Command<'a>, AllocError>
-    ensures { IfOk result (λ c. app_of c ≡ bricks) }
+    ensures { IfOk result (λ c. app_of c ≡ spec.command) }
 {
     let workers = Arg::new(alloc, "workers")
         .long("workers")
@@ -28,7 +28,7 @@ pub(crate) fn matches_of<'a>(
     alloc: Global,
     words: &'a [String],
 ) -> Result<Option<ArgMatches<'a>>, NoMemory>
-    ensures { IfOk result (λ m. option_map (λ m. rows_of (found_of m)) m ≡ rows (map string_bytes words.now)) }
+    ensures { IfOk result (λ m. option_map (λ m. rows_of (found_of m)) m ≡ spec.rows (map string_bytes words.now)) }
 {
     let Ok(bricks) = command(alloc) else {
         return Err(NoMemory);

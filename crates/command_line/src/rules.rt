@@ -2,14 +2,15 @@
 
 ghost use Rattle.std.specs.Prelude.{◌≡◌, option_map};
 ghost use Rattle.clap.specs.Words.{first_of, found_of, rows_of};
-ghost use Rattle.command_line.specs.Line as spec;
+ghost use Rattle.brick_spec.specs.AcceptedWords as spec;
+ghost use Rattle.command_line.specs.View.{mode_view, line_view};
 
 use crate::{CommandLine, Mode};
 use clap::ArgMatches;
 
 /// The mode that a word names.
 fn mode_of(text: &str) -> Option<Mode>
-    ensures { result ≡ spec.mode_of text.now }
+    ensures { option_map mode_view result ≡ spec.mode_of text.now }
 {
     if text == "inline" {
         Some(Mode::Inline)
@@ -39,7 +40,7 @@ fn has_leading_zero(bytes: &[u8]) -> bool
 }
 
 /// The number that decimal digits spell, without sign or leading zero.
-#[tactic(auto, unfolding(crate::specs::Line::number))]
+#[tactic(auto, unfolding(brick_spec::specs::AcceptedWords::number))]
 fn number(text: &str) -> Option<u64>
     ensures { result ≡ spec.number text.now }
 {
@@ -74,9 +75,9 @@ fn text_of<'a>(matches: &ArgMatches<'a>, id: &str) -> Option<&'a str>
 }
 
 /// The line that the matches are.
-#[tactic(auto, unfolding(crate::specs::Line::line_in))]
+#[tactic(auto, unfolding(brick_spec::specs::AcceptedWords::line_in))]
 pub(crate) fn line_in<'a>(matches: &ArgMatches<'a>) -> Option<CommandLine<'a>>
-    ensures { option_map spec.line_view result ≡ spec.line_in (rows_of (found_of matches.now)) }
+    ensures { option_map line_view result ≡ spec.line_in (rows_of (found_of matches.now)) }
 {
     let mode = mode_of(text_of(matches, "MODE")?)?;
     let workers = workers_of(text_of(matches, "workers")?)?;

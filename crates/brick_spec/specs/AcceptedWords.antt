@@ -1,0 +1,96 @@
+-- Accepted words: which words after the program's name are a line, and which line. The matches of the crate `clap` for the
+-- command `bricks [--workers N] MODE CHAINS OUT` exist, and the rules below hold. A request for help is no line.
+use Rattle.std.specs.Prelude.{ℕ, ◌+◌, ◌*◌, ◌-◌, ◌^◌, ◌&&◌, ◌==◌, Bool, true, not, List, [], ◌∷◌, length, slice_index, Option, Some, None, IsSome, codes, if◌then◌else◌, nat_lt, nat_le}
+use Rattle.std.specs.Str.{bytes_eq}
+use Rattle.clap.specs.Words.{App, Row, Rule, Text, matches_of, new_app, new_rule, with_rule, fault_of, Kinds, first_of}
+use Rattle.clap.specs.Simple.{on_top}
+
+-- THE COMMAND, as `clap` sees it
+
+-- `--workers N`, which is 1 where it is not there
+abbrev pub workers_rule : Rule
+workers_rule = record (new_rule (codes "workers")) { long = Some (codes "workers"); defaults = codes "1" ∷ [] }
+
+-- a word that has to be there
+abbrev pub word_rule : Text → Rule
+word_rule id = record (new_rule id) { required = true }
+
+abbrev pub command : App
+command = with_rule (with_rule (with_rule (with_rule
+    (on_top (λ s. record s { no_binary_name = true }) (new_app (codes "bricks")))
+    workers_rule) (word_rule (codes "MODE"))) (word_rule (codes "CHAINS"))) (word_rule (codes "OUT"))
+
+-- matches exist where no step of clap's reading fails
+abbrev pub where_none : Kinds → List Row → Option (List Row)
+where_none [] rows = Some rows
+where_none (kind ∷ kinds) rows = None
+
+-- the command's matches on the words, where they exist
+unfoldable pub rows : List Text → Option (List Row)
+rows words = where_none (fault_of command words) (matches_of command words)
+
+-- A LINE
+
+pub data Mode : Type 0 where
+  -- runs the tenants, and writes their files
+  Inline : Mode
+  -- reads the chain file alone
+  Check : Mode
+
+-- what is to be done, with how many workers, the name of the chain file, and the folder that is written to
+pub record Line : Type 0 where
+  pub mode : Mode
+  pub workers : ℕ
+  pub chains : List ℕ
+  pub out : List ℕ
+
+infixl 10 ◌>>=◌
+abbrev pub ◌>>=◌ : {A B : Type 0} → Option A → (A → Option B) → Option B
+(Some x) >>= f = f x
+None >>= f = None
+
+-- MODE
+abbrev pub mode_of : Text → Option Mode
+mode_of text = if bytes_eq text (codes "inline") then Some Inline else (if bytes_eq text (codes "check") then Some Check else None)
+
+-- NUMBERS: decimal digits without sign or leading zero
+
+abbrev pub is_digit : ℕ → Bool
+is_digit c = nat_le 48 c && nat_le c 57
+
+-- the number with one more digit, where that is one and the number stays below 2^64
+abbrev pub with_digit : ℕ → ℕ → Option ℕ
+with_digit n c = if is_digit c && nat_lt (n * 10 + (c - 48)) (2 ^ 64) then Some (n * 10 + (c - 48)) else None
+
+-- the number of the digits behind those that spell n
+abbrev pub number_after : ℕ → Text → Option ℕ
+number_after n [] = Some n
+number_after n (c ∷ cs) = with_digit n c >>= λ m. number_after m cs
+
+abbrev pub has_leading_zero : Text → Bool
+has_leading_zero text = nat_lt 1 (length text) && slice_index text 0 == 48
+
+-- a number below 2^64
+unfoldable pub number : Text → Option ℕ
+number text = if nat_lt 0 (length text) && not (has_leading_zero text) then number_after 0 text else None
+
+-- N: 1 to 16
+abbrev pub workers_of : Text → Option ℕ
+workers_of text = number text >>= λ n. if nat_le 1 n && nat_le n 16 then Some n else None
+
+-- the line that the matches are
+unfoldable pub line_in : List Row → Option Line
+line_in rows = do
+  mode ← first_of (codes "MODE") rows >>= mode_of
+  workers ← first_of (codes "workers") rows >>= workers_of
+  chains ← first_of (codes "CHAINS") rows
+  out ← first_of (codes "OUT") rows
+  Some (record { mode = mode; workers = workers; chains = chains; out = out })
+
+-- the line that the words are, and none where they are no line
+abbrev pub line_of : List (List ℕ) → Option Line
+line_of words = rows words >>= line_in
+
+-- the words are a line
+abbrev pub IsLine : List (List ℕ) → Type 0
+IsLine words = IsSome (line_of words)
