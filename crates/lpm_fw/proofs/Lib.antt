@@ -1,0 +1,4 @@
+mod Positions
+mod Faults
+mod Choice
+mod Unique

@@ -1,0 +1,5 @@
+pub mod RouteView
+pub mod Scan
+pub mod RuleView
+pub mod Allowed
+pub mod Laws

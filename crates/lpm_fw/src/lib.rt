@@ -1,0 +1,14 @@
+//! Routes by their longest prefix, and the rules of a firewall.
+#![tactic(auto)]
+
+mod established;
+mod laws;
+mod routes;
+mod rules;
+#[cfg(test)]
+mod tests;
+
+pub use established::Established;
+pub use laws::one_longest_prefix;
+pub use routes::{Route, RouteFault, Routes};
+pub use rules::{Rule, Rules, Verdict};

@@ -1,0 +1,191 @@
+//! Routes.
+
+ghost use Rattle.std.specs.Prelude.{◌≡◌, ℕ, ◌≤◌, ◌<◌, ◌+◌, ◌^◌, ◌≢◌, length, Option, Some, None, IfOk, OnOk, IfErr, IfSome, MatchOption, take, map};
+ghost use Rattle.std.specs.List.{slice_get, position};
+ghost use Rattle.brick_spec.specs.Route as spec;
+ghost use Rattle.lpm_fw.specs.RouteView.{route_view, fault_view};
+ghost use Rattle.lpm_fw.specs.Scan.{AreShort, Best, ScannedFault};
+ghost use Rattle.lpm_fw.specs.declared.routes.RouteFault.TheVariants.{NoMemory};
+
+use std::marker::Model;
+
+/// A row of a table of routes.
+#[derive(Clone, Copy, Debug, PartialEq, Eq)]
+pub struct Route {
+    /// The lowest address that it is for, in network order as a number.
+    pub to: u32,
+    /// How many bits of an address are looked at, 0 to 32.
+    pub bits: u8,
+    /// The Ethernet address of the next hop.
+    pub via: [u8; 6],
+}
+
+/// Why a table of routes is refused. Rows are numbered from 0.
+#[derive(Clone, Copy, Debug, PartialEq, Eq)]
+pub enum RouteFault {
+    /// Two rows have the same prefix. `first` is the earliest such row.
+    SamePrefix { first: u32, second: u32 },
+    /// The address of a row has bits past its prefix.
+    HostBits { row: u32 },
+    /// Memory ran out.
+    NoMemory,
+}
+
+/// A table of routes: at most 4,096 rows without a fault.
+#[derive(Drop)]
+pub struct Routes {
+    rows: Vec<Route>,
+}
+
+impl Model for Routes {
+    ghost use Rattle.std.specs.Prelude.{List};
+    ghost use Rattle.lpm_fw.specs.declared.routes.Route.{Route};
+    ghost use Rattle.lpm_fw.specs.Scan.{AreRows};
+
+    ghost Value = { List Route };
+
+    ghost view = { λ r. r.rows.items };
+
+    ghost invariant = { λ r. AreRows r.rows.items };
+}
+
+impl Routes {
+    /// The table of these rows, or the first fault: rows are tried in their order, each for bits past its prefix and then for the
+    /// earliest row of the same prefix.
+    pub fn build(rows: Vec<Route>) -> Result<Routes, RouteFault>
+        requires few { length rows.items ≤ 4096 }
+        requires short { AreShort rows.items }
+        ensures ok { IfOk result (λ routes. routes ≡ rows.items) }
+        ensures right { OnOk result (spec.AreRight (map route_view rows.items)) }
+        ensures fault { IfErr result (λ fault. fault ≢ NoMemory → IfSome (fault_view fault) (spec.IsFirstFault (map route_view rows.items))) }
+    {
+        match first_fault(&rows) {
+            Some(fault) => Err(fault),
+            None => Ok(Routes { rows }),
+        }
+    }
+
+    /// The row of the longest prefix that contains the address: none exactly where no prefix does.
+    pub fn find(&self, addr: u32) -> Option<u16>
+        ensures route { result ≡ spec.route_of (map route_view self.now) addr }
+        ensures there { IfSome result (λ row. row < length self.now) }
+    {
+        find_in(&self.rows, addr)
+    }
+
+    /// The Ethernet address to which a row leads.
+    pub fn via(&self, row: u16) -> [u8; 6]
+        requires { row < length self.now }
+        ensures { (route : Route) → slice_get self.now row ≡ Some route → result ≡ route.via }
+    {
+        self.rows[row as usize].via
+    }
+}
+
+ghost use Rattle.lpm_fw.specs.declared.routes.Route.{Route};
+
+/// Whether the row's prefix contains the address.
+fn leads_to(row: Route, addr: u32) -> bool
+    requires { row.bits ≤ 32 }
+    ensures { result ≡ spec.leads_to addr (route_view row) }
+{
+    let free = 32 - row.bits as u32;
+    addr as u64 >> free == row.to as u64 >> free
+}
+
+/// Whether the row's address has bits past its prefix.
+fn has_host_bits(row: Route) -> bool
+    requires { row.bits ≤ 32 }
+    ensures { result ≡ spec.has_host_bits (route_view row).to }
+{
+    let free = 32 - row.bits as u32;
+    0 < row.to as u64 % (1u64 << free)
+}
+
+/// Whether two rows have the same prefix.
+fn is_same_prefix(row: Route, other: Route) -> bool
+    ensures { result ≡ spec.is_same_prefix (route_view row).to (route_view other) }
+{
+    row.to == other.to && row.bits == other.bits
+}
+
+/// The first of the rows with the prefix of another.
+fn first_same(before: &[Route], row: Route) -> Option<usize>
+    ensures place { result ≡ position (λ other. spec.is_same_prefix (route_view row).to (route_view other)) before.now }
+    ensures within { IfSome result (λ k. k < length before.now) }
+{
+    before
+        .iter()
+        .position(|other| is_same_prefix(row, *other))
+}
+
+/// What is wrong with row `r` behind these rows.
+fn fault_at(before: &[Route], row: Route, r: u32) -> Option<RouteFault>
+    requires few { length before.now < 2 ^ 32 }
+    requires short { row.bits ≤ 32 }
+    ensures { ScannedFault before.now row r result }
+{
+    if has_host_bits(row) {
+        return Some(RouteFault::HostBits { row: r });
+    }
+    match first_same(before, row) {
+        Some(first) => Some(RouteFault::SamePrefix {
+            first: first as u32,
+            second: r,
+        }),
+        None => None,
+    }
+}
+
+/// The first fault in the order of the rows.
+fn first_fault(rows: &[Route]) -> Option<RouteFault>
+    requires few { length rows.now ≤ 4096 }
+    requires short { AreShort rows.now }
+    ensures { MatchOption result (spec.AreRight (map route_view rows.now)) (λ fault. IfSome (fault_view fault) (spec.IsFirstFault (map route_view rows.now))) }
+{
+    for r in 0..rows.len() {
+        let found = fault_at(&rows[..r], rows[r], r as u32);
+        if found.is_some() {
+            return found;
+        }
+    }
+    None
+}
+
+/// The row of the longest prefix that contains the address.
+fn find_in(rows: &[Route], addr: u32) -> Option<u16>
+    requires few { length rows.now ≤ 4096 }
+    requires short { AreShort rows.now }
+    ensures route { result ≡ spec.route_of (map route_view rows.now) addr }
+    ensures there { IfSome result (λ row. row < length rows.now) }
+{
+    let mut best = None;
+    for k in 0..rows.len() {
+        best = better(rows, addr, best, k);
+    }
+    best
+}
+
+/// The better one of row `k` and the best before it.
+fn better(rows: &[Route], addr: u32, best: Option<u16>, k: usize) -> Option<u16>
+    requires few { length rows.now ≤ 4096 }
+    requires short { AreShort rows.now }
+    requires there { k < length rows.now }
+    requires best { Best rows.now addr k best }
+    ensures { Best rows.now addr (k + 1) result }
+{
+    let row = rows[k];
+    if !leads_to(row, addr) {
+        return best;
+    }
+    match best {
+        Some(b) => {
+            if rows[b as usize].bits < row.bits {
+                Some(k as u16)
+            } else {
+                best
+            }
+        }
+        None => Some(k as u16),
+    }
+}
