@@ -1,0 +1,4 @@
+pub mod View
+pub mod OpenedView
+pub mod Maps
+pub mod Found

@@ -1,0 +1,107 @@
+//! The ends of a frame, its key and the hash of that.
+
+ghost use Rattle.std.specs.Prelude.{◌≡◌, option_map};
+ghost use Rattle.brick_spec.specs.FlowClass as spec;
+ghost use Rattle.brick_spec.specs.Hash as fnv;
+ghost use Rattle.tcp_udp.specs.View.{tuple_view};
+ghost use Rattle.flow_key.specs.View.{end_view, key_view};
+
+use crate::key::{End, Key};
+use brick_base::fnv1a;
+use tcp_udp::Tuple;
+
+/// Where the frame comes from.
+pub(crate) fn source_end(tuple: &Tuple) -> End
+    ensures { end_view result ≡ spec.source_end (tuple_view tuple.now) }
+{
+    let port = match tuple.ports {
+        Some((sport, _)) => sport,
+        None => 0,
+    };
+    End {
+        address: tuple.src,
+        port,
+    }
+}
+
+/// Where it goes to.
+pub(crate) fn destination_end(tuple: &Tuple) -> End
+    ensures { end_view result ≡ spec.destination_end (tuple_view tuple.now) }
+{
+    let port = match tuple.ports {
+        Some((_, dport)) => dport,
+        None => 0,
+    };
+    End {
+        address: tuple.dst,
+        port,
+    }
+}
+
+/// Whether two ends are one.
+pub(crate) fn is_same_end(a: End, b: End) -> bool
+    ensures { result ≡ spec.is_same_end (end_view a) (end_view b) }
+{
+    a.address == b.address && a.port == b.port
+}
+
+/// Whether an end is at most another, by address and then port.
+fn is_at_most(a: End, b: End) -> bool
+    ensures { result ≡ spec.is_at_most (end_view a) (end_view b) }
+{
+    a.address < b.address || a.address == b.address && a.port <= b.port
+}
+
+/// The key of a frame.
+pub(crate) fn key_of(tuple: &Tuple) -> Key
+    ensures { key_view result ≡ spec.key_of (tuple_view tuple.now) }
+{
+    let source = source_end(tuple);
+    let destination = destination_end(tuple);
+    if is_at_most(source, destination) {
+        Key {
+            proto: tuple.proto,
+            low: source,
+            high: destination,
+        }
+    } else {
+        Key {
+            proto: tuple.proto,
+            low: destination,
+            high: source,
+        }
+    }
+}
+
+/// The hash of a key.
+fn hash_key(key: Key) -> u64
+    ensures { result ≡ fnv.hash_of (spec.hash_bytes (key_view key)) }
+{
+    let low = key.low;
+    let high = key.high;
+    fnv1a(&[
+        key.proto,
+        (low.address / 16_777_216) as u8,
+        (low.address / 65_536 % 256) as u8,
+        (low.address / 256 % 256) as u8,
+        (low.address % 256) as u8,
+        (low.port / 256) as u8,
+        (low.port % 256) as u8,
+        (high.address / 16_777_216) as u8,
+        (high.address / 65_536 % 256) as u8,
+        (high.address / 256 % 256) as u8,
+        (high.address % 256) as u8,
+        (high.port / 256) as u8,
+        (high.port % 256) as u8,
+    ])
+}
+
+/// The hash of the key of a flow, by its first record.
+pub(crate) fn flow_hash(first: &Option<Tuple>) -> u64
+    ensures { result ≡ spec.flow_hash (option_map tuple_view first.now) }
+{
+    match first {
+        Some(tuple) => hash_key(key_of(tuple)),
+        None => fnv1a(&[]),
+    }
+}
