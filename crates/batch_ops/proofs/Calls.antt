@@ -124,24 +124,28 @@ moves_both own₁ own₂ most₁ most₂ before rest₁ old mid mid' new a b fir
           IsPermutation-trans _ _ _ each (IsPermutation-trans _ _ _ named (IsPermutation-trans _ _ _ sorted (same_order _ _ joined)));
     }
 
--- how many packets a call added
-pub how_many : (own : List BufferModel) (most : ℕ) (before : List Passed) (old new : Outlet) (a : Added) → (m : Moves own most before old new a) → length a.passed + (length a.dropped + length a.consumed) ≡ length own + length m.slots
-how_many own most before old new a m =
-    let e₁ = length_permutation _ _ m.buffers in
-    let e₂ = length-append own (spare_buffers old.spare m.slots) in
-    let e₃ : length (spare_buffers old.spare m.slots) ≡ length m.slots = length-map m.slots _ in
+-- how many packets lie in such buffers
+pub many_in : (own : List BufferModel) (spare : SpareModel) (slots : List ℕ) (a : Added) → IsPermutation (map buffer_of (packets a)) (own ++ spare_buffers spare slots) → length a.passed + (length a.dropped + length a.consumed) ≡ length own + length slots
+many_in own spare slots a h =
+    let e₁ = length_permutation _ _ h in
+    let e₂ = length-append own (spare_buffers spare slots) in
+    let e₃ : length (spare_buffers spare slots) ≡ length slots = length-map slots _ in
     let e₄ = packets_many a in
     let e₅ = length-map (packets a) buffer_of in
     omega arith where
-  packets_many : (a : Added) → length (packets a) ≡ length a.passed + (length a.dropped + length a.consumed)
-  packets_many a =
-      let p = λ (x : Passed). x.packet in
-      let d = λ (x : Dropped). x.packet in
-      let e₅ = length-append (map p a.passed) (map d a.dropped ++ a.consumed) in
-      let e₆ = length-append (map d a.dropped) a.consumed in
-      let e₇ = length-map a.passed p in
-      let e₈ = length-map a.dropped d in
-      omega arith
+      packets_many : (a : Added) → length (packets a) ≡ length a.passed + (length a.dropped + length a.consumed)
+      packets_many a =
+          let p = λ (x : Passed). x.packet in
+          let d = λ (x : Dropped). x.packet in
+          let e₅ = length-append (map p a.passed) (map d a.dropped ++ a.consumed) in
+          let e₆ = length-append (map d a.dropped) a.consumed in
+          let e₇ = length-map a.passed p in
+          let e₈ = length-map a.dropped d in
+          omega arith
+
+-- how many packets a call added
+pub how_many : (own : List BufferModel) (most : ℕ) (before : List Passed) (old new : Outlet) (a : Added) → (m : Moves own most before old new a) → length a.passed + (length a.dropped + length a.consumed) ≡ length own + length m.slots
+how_many own most before old new a m = many_in own old.spare m.slots a m.buffers
 
 -- what adds no packet adds nothing
 pub added_none : (own : List BufferModel) (most : ℕ) (before : List Passed) (old new : Outlet) (a : Added) → (m : Moves own most before old new a) → own ≡ [] → m.slots ≡ [] → a ≡ nothing_added
@@ -170,10 +174,10 @@ one_lost p a h some = found a.passed a.dropped a.consumed h some where
   found [] (d ∷ e ∷ ds) consumed h some = absurd (let e = length_permutation _ _ h in omega arith)
   found (x ∷ xs) [] consumed h some = cc
   found (x ∷ xs) (d ∷ ds) consumed h some = absurd (
-    let e = length_permutation _ _ h in
-    let n = length-map (map (λ (y : Passed). y.packet) xs ++ (map (λ (y : Dropped). y.packet) (d ∷ ds) ++ consumed)) buffer_of in
-    let m = length-append (map (λ (y : Passed). y.packet) xs) (map (λ (y : Dropped). y.packet) (d ∷ ds) ++ consumed) in
-    omega arith)
+      let e = length_permutation _ _ h in
+      let n = length-map (map (λ (y : Passed). y.packet) xs ++ (map (λ (y : Dropped). y.packet) (d ∷ ds) ++ consumed)) buffer_of in
+      let m = length-append (map (λ (y : Passed). y.packet) xs) (map (λ (y : Dropped). y.packet) (d ∷ ds) ++ consumed) in
+      omega arith)
 
 -- OUTCOMES
 

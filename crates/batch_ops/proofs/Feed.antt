@@ -53,12 +53,12 @@ module _ {O : Type 0} (stands : O → Flow → Came → Left → Type 0) (ready 
             (did_both stands ready failed spares least_room old mid new (flow_of class) (map passed_buffer done) (buffer_of x.packet ∷ []) (length done * s) (spares mid) (base ++ x ∷ rest) (base ++ rest) (map passed_item done) (work_item class x.packet ∷ []) None out₀ out₁ out₂ out₃ r₁ r₂ fed.did step.did ep ed ec es kp kd kc (λ gone. (step.stays_failed gone).0));
         lost = lost_in r₁ r₂ fed.did.moves.slots step.did.moves.slots fed.did.added step.did.added fed.lost (lost_of_step mid new class x out₂ out₃ r₂ step);
       } where
-    lost_in : (r₁ r₂ : Result ⊤ NoMemory) (xs ys : List ℕ) (a b : Added) → OnErr r₁ (xs ≡ [] → list_any is_lost a.dropped ≡ true) → OnErr r₂ (ys ≡ [] → list_any is_lost b.dropped ≡ true)
-        → OnErr (joined r₁ r₂) (xs ++ ys ≡ [] → list_any is_lost (both_added a b).dropped ≡ true)
-    lost_in (Ok x) (Ok y) xs ys a b h k = tt
-    lost_in (Err x) (Ok y) xs ys a b h k = λ free. some_of_first a b (h (left_none xs ys free))
-    lost_in (Ok x) (Err y) xs ys a b h k = λ free. some_of_second a b (k (right_none xs ys free))
-    lost_in (Err x) (Err y) xs ys a b h k = λ free. some_of_second a b (k (right_none xs ys free))
+        lost_in : (r₁ r₂ : Result ⊤ NoMemory) (xs ys : List ℕ) (a b : Added) → OnErr r₁ (xs ≡ [] → list_any is_lost a.dropped ≡ true) → OnErr r₂ (ys ≡ [] → list_any is_lost b.dropped ≡ true)
+            → OnErr (joined r₁ r₂) (xs ++ ys ≡ [] → list_any is_lost (both_added a b).dropped ≡ true)
+        lost_in (Ok x) (Ok y) xs ys a b h k = tt
+        lost_in (Err x) (Ok y) xs ys a b h k = λ free. some_of_first a b (h (left_none xs ys free))
+        lost_in (Ok x) (Err y) xs ys a b h k = λ free. some_of_second a b (k (right_none xs ys free))
+        lost_in (Err x) (Err y) xs ys a b h k = λ free. some_of_second a b (k (right_none xs ys free))
 
 module _ {O : Type 0} (stands : O → Flow → Came → Left → Type 0) (ready : O → Type 0) (failed : O → Bool) (spares least_room : O → ℕ) where
   -- after the last packet

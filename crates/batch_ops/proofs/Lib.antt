@@ -2,3 +2,4 @@ pub mod Batches
 pub mod Calls
 pub mod Feed
 pub mod ThenCalls
+pub mod Runs

@@ -188,10 +188,10 @@ module _ {A B T : Type 0} (sa : A → Flow → Came → Left → Type 0) (ra : A
             (some_lost one two h.1 free)) err;
         stays_failed = λ gone. cc;
       } where
-    some_lost : (one : Stepped sa ra fa na la (first old) (first new) class p out mid r₁) (two : Fed sb rb fb nb lb (second old) (second new) (flow_of class) out.passed.items one.did.added.passed mid out' r₂) → IsErr r₁ ⊎ IsErr r₂
-        → one.did.moves.slots ++ two.did.moves.slots ≡ [] → list_any is_lost (one.did.added.dropped ++ two.did.added.dropped) ≡ true
-    some_lost one two (inl h) free = some_of_first one.did.added two.did.added (ap (λ (a : Added). list_any is_lost a.dropped) ((on_err_use r₁ _ h one.lost) (left_none one.did.moves.slots two.did.moves.slots free)).2)
-    some_lost one two (inr h) free = some_of_second one.did.added two.did.added ((on_err_use r₂ _ h two.lost) (right_none one.did.moves.slots two.did.moves.slots free))
+        some_lost : (one : Stepped sa ra fa na la (first old) (first new) class p out mid r₁) (two : Fed sb rb fb nb lb (second old) (second new) (flow_of class) out.passed.items one.did.added.passed mid out' r₂) → IsErr r₁ ⊎ IsErr r₂
+            → one.did.moves.slots ++ two.did.moves.slots ≡ [] → list_any is_lost (one.did.added.dropped ++ two.did.added.dropped) ≡ true
+        some_lost one two (inl h) free = some_of_first one.did.added two.did.added (ap (λ (a : Added). list_any is_lost a.dropped) ((on_err_use r₁ _ h one.lost) (left_none one.did.moves.slots two.did.moves.slots free)).2)
+        some_lost one two (inr h) free = some_of_second one.did.added two.did.added ((on_err_use r₂ _ h two.lost) (right_none one.did.moves.slots two.did.moves.slots free))
 
   pub then_ends : (old new : T) (between : B) (class : Class) (records : ℕ) (out mid last out' : Outlet) (before ps : List Passed) (r₁ r₂ r₃ r : Result ⊤ NoMemory)
       → (one : Finished sa ra fa na la (first old) (first new) class records out mid r₁)

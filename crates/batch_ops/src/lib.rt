@@ -6,11 +6,15 @@
 #![tactic(auto)]
 
 mod batch;
+mod drive;
+mod laws;
 mod operator;
 mod outlet;
 mod then;
 
 pub use batch::{Batch, Work};
+pub use drive::{Results, run};
+pub use laws::cut_anywhere;
 pub use operator::Operator;
 pub use outlet::{Dropped, Outlet, Passed};
 pub use then::Then;
