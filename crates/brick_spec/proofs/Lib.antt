@@ -1,2 +1,5 @@
 pub mod Numbers
+pub mod ByteLists
+pub mod Words
+pub mod Checksums
 pub mod Streams

@@ -6,6 +6,9 @@ pub mod Hash
 pub mod Header
 pub mod Layer
 pub mod Edit
+pub mod Transport
+pub mod Tuple
+pub mod Match
 pub mod Item
 pub mod Stage
 pub mod Flow

@@ -15,25 +15,25 @@ word_at-take bytes n at h =
     let low = same 1 (omega arith) in
     λ i. high i * 256 + (low i * 1 + 0)
 
-some_if : (b : Bool) (m n : ℕ) → (if b then Some m else None) ≡ Some n → (b ≡ true) × (m ≡ n)
+pub some_if : (b : Bool) (m n : ℕ) → (if b then Some m else None) ≡ Some n → (b ≡ true) × (m ≡ n)
 some_if true m n h = (refl, cc)
 some_if false m n h = cc
 
-within_if : (b : Bool) (least m there : ℕ) → (b ≡ true → (least ≤ m) × (m ≤ there)) → IsLengthWithin least (if b then Some m else None) there
+pub within_if : (b : Bool) (least m there : ℕ) → (b ≡ true → (least ≤ m) × (m ≤ there)) → IsLengthWithin least (if b then Some m else None) there
 within_if true least m there h = h refl
 within_if false least m there h = tt
 
-both : (a b : Bool) → (a && b) ≡ true → (a ≡ true) × (b ≡ true)
+pub both : (a b : Bool) → (a && b) ≡ true → (a ≡ true) × (b ≡ true)
 both true b h = (refl, h)
 both false b h = cc
 
-and_true : (a b : Bool) → a ≡ true → b ≡ true → (a && b) ≡ true
+pub and_true : (a b : Bool) → a ≡ true → b ≡ true → (a && b) ≡ true
 and_true a b h k = ap (λ c. c && b) h ∙ k
 
-le_of_test : (m n : ℕ) → nat_le m n ≡ true → m ≤ n
+pub le_of_test : (m n : ℕ) → nat_le m n ≡ true → m ≤ n
 le_of_test m n h = grind (arith, nat_tests)
 
-test_of_le : (m n : ℕ) → m ≤ n → nat_le m n ≡ true
+pub test_of_le : (m n : ℕ) → m ≤ n → nat_le m n ≡ true
 test_of_le m n h = grind (arith, nat_tests)
 
 -- ETHERNET

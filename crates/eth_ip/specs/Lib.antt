@@ -1,1 +1,2 @@
 pub mod LayerLaws
+pub mod RightLaws

@@ -1,15 +1,27 @@
-//! Ethernet II and IPv4: the two layers of a frame, and views of an IPv4 header.
+//! Ethernet II and IPv4: the two layers of a frame, and views of their headers.
 //!
-//! A header is a slice that the caller holds. A view reads it in place, and an edit changes the bytes of one word and of the
-//! header checksum, and no other.
+//! A header is a slice that the caller holds. A view reads it in place, and an edit changes the bytes of a field and of the
+//! IPv4 header checksum, and no other. What a view does, a function over the slice does too.
 #![tactic(auto)]
 
 mod ethernet;
 mod header;
 mod internet;
+mod laws;
 #[cfg(test)]
 mod tests;
+mod view;
 
-pub use ethernet::Eth;
-pub use header::{Ip4Mut, Ip4View, header_protocol, header_ttl, set_header_ttl};
+pub use ethernet::{
+    Eth, EthMut, EthView, ethernet_destination, ethernet_kind, ethernet_source,
+    set_ethernet_destination, set_ethernet_source,
+};
+pub use header::{
+    header_checksum, header_destination, header_fragment_offset, header_ident,
+    header_more_fragments, header_protocol, header_source, header_tos, header_total, header_ttl,
+    is_header_ok, set_header_destination, set_header_source, set_header_tos, set_header_total,
+    set_header_ttl,
+};
 pub use internet::Ip4;
+pub use laws::edits_keep_right;
+pub use view::{Ip4Mut, Ip4View};

@@ -1,7 +1,7 @@
 ghost use Rattle.std.specs.Prelude.{◌≡◌, ◌-◌, ◌%◌, ◌≤◌, length};
 ghost use Rattle.brick_spec.specs.Edit.{ttl_of, with_ttl};
 
-use crate::{Eth, Ip4, Ip4Mut, Ip4View};
+use crate::{Eth, EthMut, EthView, Ip4, Ip4Mut, Ip4View, edits_keep_right};
 use brick_base::Proto;
 
 /// UDP from 10.0.0.1:1000 to 10.1.2.3:53 with the payload `ping`.
@@ -96,4 +96,64 @@ fn extents(rt: HostRuntime) {
         header[3] = total;
         assert_eq!(rt; Ip4::extent(&header, room), want);
     }
+}
+
+#[test]
+fn ethernet_fields(rt: HostRuntime) {
+    let mut header = [2, 0, 0, 0, 0, 1, 2, 0, 0, 0, 0, 2, 8, 0];
+    let view = EthView::of(&header);
+    assert_eq!(rt; view.dst(), [2, 0, 0, 0, 0, 1]);
+    assert_eq!(rt; view.src(), [2, 0, 0, 0, 0, 2]);
+    assert_eq!(rt; view.kind(), 0x0800);
+
+    let mut ethernet = EthMut::of(&mut header);
+    ethernet.set_dst([2, 0, 0, 0, 0, 3]);
+    ethernet.set_src([2, 0, 0, 0, 0, 4]);
+    assert_eq!(rt; header, [2, 0, 0, 0, 0, 3, 2, 0, 0, 0, 0, 4, 8, 0]);
+}
+
+#[test]
+fn internet_fields(rt: HostRuntime) {
+    let view = Ip4View::of(&HEADER);
+    assert_eq!(rt; (view.tos(), view.total(), view.ident()), (0, 0x73, 0));
+    assert_eq!(rt; (view.more_fragments(), view.fragment_offset()), (false, 0));
+    assert_eq!(rt; (view.src(), view.dst()), (0xc0a8_0001, 0xc0a8_00c7));
+    assert_eq!(rt; (view.stored(), view.header_ok()), (0xb861, true));
+
+    let mut header = HEADER;
+    header[6] = 0x20;
+    header[7] = 0x01;
+    let fragment = Ip4View::of(&header);
+    assert_eq!(rt;
+        (fragment.more_fragments(), fragment.fragment_offset()),
+        (true, 1)
+    );
+    assert!(rt; !fragment.header_ok());
+}
+
+#[test]
+fn address_edits(rt: HostRuntime) {
+    // The header of the cut frame that is translated to 203.0.113.1.
+    let mut header = [
+        0x45, 0x00, 0x05, 0xdc, 0x00, 0x00, 0x40, 0x00, 0x40, 0x06, 0x00, 0xe6, 0x0a, 0x00, 0x00,
+        0x01, 0xc6, 0x33, 0x64, 0x02,
+    ];
+    let mut ip4 = Ip4Mut::of(&mut header);
+    ip4.set_src(0xcb00_7101);
+    assert_eq!(rt; (ip4.src(), ip4.stored()), (0xcb00_7101, 0xcee4));
+}
+
+#[test]
+fn other_edits(rt: HostRuntime) {
+    // A word that grows by n takes n from a checksum that has as much.
+    let mut header = HEADER;
+    let mut ip4 = Ip4Mut::of(&mut header);
+    ip4.set_tos(0x10);
+    assert_eq!(rt; (ip4.tos(), ip4.stored()), (0x10, 0xb851));
+    ip4.set_dst(0xc0a8_00c8);
+    assert_eq!(rt; (ip4.dst(), ip4.stored()), (0xc0a8_00c8, 0xb850));
+    ip4.set_total(0x74);
+    assert_eq!(rt; (ip4.total(), ip4.stored()), (0x74, 0xb84f));
+    assert!(rt; ip4.header_ok());
+    edits_keep_right();
 }

@@ -1,0 +1,5 @@
+pub mod LayerLaws
+pub mod Datagrams
+pub mod View
+pub mod PrefixView
+pub mod MatchView

@@ -1,0 +1,15 @@
+-- A match of the code as one of the definitions.
+use Rattle.std.specs.Prelude.{option_map}
+use Rattle.brick_spec.specs.Match as match
+use Rattle.tcp_udp.specs.declared.matching.Match.{Match}
+use Rattle.tcp_udp.specs.PrefixView.{prefix_view}
+
+abbrev pub match_view : Match → match.Match
+match_view m = record {
+  proto = m.proto;
+  src = option_map prefix_view m.src;
+  dst = option_map prefix_view m.dst;
+  sport = m.sport;
+  dport = m.dport;
+  port = m.port;
+}

@@ -1,0 +1,43 @@
+//! The IPv4 datagram of a frame.
+
+ghost use Rattle.std.specs.Prelude.{◌≡◌, ℕ, ◌≤◌, length, MatchOption};
+ghost use Rattle.brick_spec.specs.Layer.{Layer, ip4_layer, carries};
+ghost use Rattle.tcp_udp.specs.Datagrams.{IsDatagram};
+
+use brick_base::Proto;
+use eth_ip::{Eth, Ip4, header_fragment_offset, header_more_fragments, header_protocol, header_total};
+
+/// The IPv4 header of a frame and its payload.
+#[derive(Clone, Copy)]
+pub(crate) struct Datagram<'a> {
+    pub(crate) header: &'a [u8],
+    pub(crate) payload: &'a [u8],
+    /// The frame ends before the total length.
+    pub(crate) is_cut: bool,
+}
+
+/// The IPv4 datagram of a frame, where it has that layer.
+pub(crate) fn read_datagram(frame: &[u8]) -> Option<Datagram<'_>>
+    ensures { MatchOption result (ip4_layer frame.now ≡ None) (λ d. IsDatagram frame.now d.header.now d.payload.now d.is_cut) }
+{
+    let start = Eth::length(&[], frame)?;
+    let (ethernet, rest) = frame.split_at(start);
+    let length = Ip4::length(ethernet, rest)?;
+    let header = &rest[..length];
+    let end = Ip4::extent(header, rest.len());
+    Some(Datagram {
+        header,
+        payload: &rest[length..end],
+        is_cut: rest.len() < header_total(header) as usize,
+    })
+}
+
+/// Whether an IPv4 header is of this protocol and its payload is a whole datagram's, no fragment.
+pub(crate) fn carries(header: &[u8], protocol: u8) -> bool
+    ensures { result ≡ carries protocol header.now }
+{
+    header.len() >= 20
+        && header_protocol(header) == protocol
+        && header_fragment_offset(header) == 0
+        && !header_more_fragments(header)
+}

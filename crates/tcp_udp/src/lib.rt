@@ -1,0 +1,27 @@
+//! TCP and UDP: the two layers in the payload of IPv4, views of their headers, the five-tuple of a frame, what a match asks of it,
+//! and whether a frame's transport checksum is right.
+//!
+//! A header is a slice that the caller holds. A view reads it in place, and an edit changes the bytes of a field and of the
+//! checksum, and no other. What a view does, a function over the slice does too.
+#![tactic(auto)]
+
+mod datagram;
+mod matching;
+mod tcp;
+mod tcp_header;
+#[cfg(test)]
+mod tests;
+mod transport;
+mod tuple;
+mod udp;
+mod udp_header;
+mod words;
+
+pub use matching::Match;
+pub use tcp::Tcp;
+pub use tcp_header::{TcpMut, TcpView, set_tcp_destination_port, set_tcp_source_port, tcp_acknowledgement, tcp_address_changed, tcp_checksum, tcp_flags, tcp_sequence, tcp_window};
+pub use transport::transport_ok;
+pub use tuple::Tuple;
+pub use udp::Udp;
+pub use udp_header::{UdpMut, UdpView, set_udp_destination_port, set_udp_source_port, udp_address_changed, udp_checksum, udp_total};
+pub use words::{destination_port, source_port};
