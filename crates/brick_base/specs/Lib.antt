@@ -1,3 +1,4 @@
+pub mod Flow
 pub mod Layering
 pub mod Prefix
 pub mod Reason
