@@ -1,6 +1,6 @@
 -- The earlier flow of a record, and its direction, as the definitions speak of them.
 use Rattle.std.specs.Prelude.{ℕ, Option, option_map}
-use Rattle.brick_base.specs.ClassView.{dir_view}
+use Rattle.brick_base.specs.Flow.{dir_view}
 use Rattle.brick_base.specs.declared.flow.Dir.{Dir}
 use Rattle.brick_spec.specs.Flow.{Direction}
 

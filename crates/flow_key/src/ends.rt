@@ -73,27 +73,24 @@ pub(crate) fn key_of(tuple: &Tuple) -> Key
     }
 }
 
+/// The bytes of an end: the address and the port, the highest byte first.
+fn end_bytes(end: End) -> [u8; 6]
+    ensures { result ≡ spec.end_bytes (end_view end) }
+{
+    let address = end.address.to_be_bytes();
+    let port = end.port.to_be_bytes();
+    [address[0], address[1], address[2], address[3], port[0], port[1]]
+}
+
 /// The hash of a key.
 fn hash_key(key: Key) -> u64
     ensures { result ≡ fnv.hash_of (spec.hash_bytes (key_view key)) }
 {
-    let low = key.low;
-    let high = key.high;
-    fnv1a(&[
-        key.proto,
-        (low.address / 16_777_216) as u8,
-        (low.address / 65_536 % 256) as u8,
-        (low.address / 256 % 256) as u8,
-        (low.address % 256) as u8,
-        (low.port / 256) as u8,
-        (low.port % 256) as u8,
-        (high.address / 16_777_216) as u8,
-        (high.address / 65_536 % 256) as u8,
-        (high.address / 256 % 256) as u8,
-        (high.address % 256) as u8,
-        (high.port / 256) as u8,
-        (high.port % 256) as u8,
-    ])
+    let mut bytes = [0; 13];
+    bytes[0] = key.proto;
+    bytes[1..7].copy_from_slice(&end_bytes(key.low));
+    bytes[7..].copy_from_slice(&end_bytes(key.high));
+    fnv1a(&bytes)
 }
 
 /// The hash of the key of a flow, by its first record.

@@ -4,7 +4,7 @@ ghost use Rattle.std.specs.Prelude.{◌≡◌, ◌<◌, ℕ, Option, Some, None,
 ghost use Rattle.std.specs.List.{position};
 ghost use Rattle.std.specs.BTreeMap.{get};
 ghost use Rattle.brick_spec.specs.FlowClass as spec;
-ghost use Rattle.brick_base.specs.ClassView.{dir_view, ends_view, class_view};
+ghost use Rattle.brick_base.specs.Flow.{dir_view, ends_view, class_view};
 ghost use Rattle.tcp_udp.specs.View.{tuple_view};
 ghost use Rattle.flow_key.specs.View.{plan_view, key_view};
 ghost use Rattle.flow_key.specs.OpenedView.{opened_view};
@@ -52,15 +52,19 @@ fn reply_in(plan: &NatPlan, flows: &[Opened], ranks: &[u32], tuple: &Tuple) -> O
     ensures reply { result ≡ position (spec.is_reply (plan_view plan.now) (tuple_view tuple.now)) (map opened_view flows.now) }
     ensures within { IfSome result (λ number. number < length flows.now) }
 {
-    let rank = rank_of(plan, tuple)?;
-    if rank as usize >= ranks.len() {
-        return None;
-    }
-    let number = ranks[rank as usize];
-    if is_reply(plan, tuple, flows[number as usize]) {
-        Some(number)
-    } else {
-        None
+    match rank_of(plan, tuple) {
+        Some(rank) => {
+            if rank as usize >= ranks.len() {
+                return None;
+            }
+            let number = ranks[rank as usize];
+            if is_reply(plan, tuple, flows[number as usize]) {
+                Some(number)
+            } else {
+                None
+            }
+        }
+        None => None,
     }
 }
 
