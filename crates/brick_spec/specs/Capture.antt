@@ -58,10 +58,9 @@ IsWhole bytes c = (order : Order) × IsCapture order c.nano c.entries bytes
 abbrev pub longest_capture : ℕ
 longest_capture = 33554432
 
--- The first form of a capture: at most 33,554,432 bytes, little-endian with microseconds by its first four bytes, and whole.
-pub record IsFirstCapture (bytes : List ℕ) (c : Contents) : Type 0 where
+-- The bytes are a capture that is read: no more than the limit, and whole.
+pub record IsReadable (bytes : List ℕ) (c : Contents) : Type 0 where
   pub short : length bytes ≤ longest_capture
-  pub begins : take 4 bytes ≡ 0xd4 ∷ 0xc3 ∷ 0xb2 ∷ 0xa1 ∷ []
   pub whole : IsWhole bytes c
 
 -- THE WRITER

@@ -1,14 +1,22 @@
 -- How a run ends, and the text that tells it. Each line ends with a line feed.
-use Rattle.std.specs.Prelude.{ℕ, Bool, true, false, List, ◌++◌, flat_map, slice_index, codes, decimal, if◌then◌else◌}
+use Rattle.std.specs.Prelude.{ℕ, ◌+◌, ◌/◌, ◌%◌, nat_lt, Bool, true, false, List, [], ◌∷◌, ◌++◌, flat_map, slice_index, codes, decimal, if◌then◌else◌, IsTrue}
 use Rattle.std.specs.List.{list_all}
+use Rattle.brick_spec.specs.Bytes.{Big, four_bytes}
+use Rattle.brick_spec.specs.CaptureFault.{CaptureFault, ShortHeader, Magic, Version, Link, CutRecord, LongRecord}
 use Rattle.brick_spec.specs.Tenant.{Tally, Output, records_in}
 
 -- what became of a tenant
 pub data TenantEnd : Type 0 where
   -- its files are written
   Done : Tally → TenantEnd
-  -- its capture was read and is not of the first form
-  BadCapture : TenantEnd
+  -- its capture was read past the most bytes that a capture may have
+  TooLong : TenantEnd
+  -- its capture was read to its end, and this fault stands in it
+  BadCapture : CaptureFault → TenantEnd
+  -- reading its capture failed
+  ReadFault : TenantEnd
+  -- writing one of its files failed
+  WriteFault : TenantEnd
 
 -- what is told of a tenant: its name, and what became of it
 pub record Line : Type 0 where
@@ -21,7 +29,7 @@ pub data Outcome : Type 0 where
   Usage : Outcome
   -- the chain file was read and is not accepted
   ChainsRefused : Outcome
-  -- a call of the store failed
+  -- reading the chain file failed
   StoreFault : Outcome
   -- memory ran out
   NoMemory : Outcome
@@ -47,9 +55,32 @@ records_text t = codes " done records=" ++ (decimal (records_in t) ++ (codes " a
 abbrev pub tally_text : Tally → List ℕ
 tally_text t = records_text t ++ (drops_text t.drops ++ flat_map output_count_text t.outputs)
 
+-- a hexadecimal digit, in lower case
+abbrev pub hex_digit : ℕ → ℕ
+hex_digit n = if nat_lt n 10 then 48 + n else 87 + n
+
+abbrev pub hex_byte : ℕ → List ℕ
+hex_byte byte = hex_digit (byte / 16) ∷ hex_digit (byte % 16) ∷ []
+
+-- a word of 32 bits in eight hexadecimal digits, the highest first
+unfoldable pub hex_word : ℕ → List ℕ
+hex_word word = flat_map hex_byte (four_bytes Big word)
+
+-- The number and the name of a fault, and what it says. The word of Magic is told as its four bytes stand in the file.
+unfoldable pub fault_text : CaptureFault → List ℕ
+fault_text (ShortHeader len) = codes " 1 ShortHeader len=" ++ decimal len
+fault_text (Magic word) = codes " 2 Magic word=" ++ hex_word word
+fault_text (Version major minor) = codes " 3 Version major=" ++ (decimal major ++ (codes " minor=" ++ decimal minor))
+fault_text (Link word) = codes " 4 Link word=" ++ decimal word
+fault_text (CutRecord number at) = codes " 5 CutRecord number=" ++ (decimal number ++ (codes " at=" ++ decimal at))
+fault_text (LongRecord number len) = codes " 6 LongRecord number=" ++ (decimal number ++ (codes " len=" ++ decimal len))
+
 abbrev pub end_text : TenantEnd → List ℕ
 end_text (Done t) = tally_text t
-end_text BadCapture = codes " bad-capture 0 FirstForm"
+end_text TooLong = codes " too-long"
+end_text (BadCapture fault) = codes " bad-capture" ++ fault_text fault
+end_text ReadFault = codes " read-fault"
+end_text WriteFault = codes " write-fault"
 
 abbrev pub line_text : Line → List ℕ
 line_text l = l.name ++ (end_text l.end ++ codes "\n")
@@ -67,7 +98,14 @@ is_done l = end_is_done l.end
   where
     end_is_done : TenantEnd → Bool
     end_is_done (Done t) = true
-    end_is_done BadCapture = false
+    end_is_done TooLong = false
+    end_is_done (BadCapture fault) = false
+    end_is_done ReadFault = false
+    end_is_done WriteFault = false
+
+-- every line is done
+abbrev pub AllDone : List Line → Type 0
+AllDone lines = IsTrue (list_all is_done lines)
 
 -- the exit status of an outcome, where its text was written
 abbrev pub status_of : Outcome → ℕ
@@ -76,6 +114,22 @@ status_of ChainsRefused = 3
 status_of StoreFault = 4
 status_of NoMemory = 6
 status_of (Reported lines) = if list_all is_done lines then 0 else 1
+
+-- it ends with a report in which every line is done
+abbrev pub IsAllDone : Outcome → Type 0
+IsAllDone Usage = ⊥
+IsAllDone ChainsRefused = ⊥
+IsAllDone StoreFault = ⊥
+IsAllDone NoMemory = ⊥
+IsAllDone (Reported lines) = AllDone lines
+
+-- it ends with a report in which some line is not done
+abbrev pub HasOther : Outcome → Type 0
+HasOther Usage = ⊥
+HasOther ChainsRefused = ⊥
+HasOther StoreFault = ⊥
+HasOther NoMemory = ⊥
+HasOther (Reported lines) = ¬ (AllDone lines)
 
 -- it ends with a report of the tenants
 abbrev pub HasReport : Outcome → Type 0

@@ -9,4 +9,6 @@ pub mod Rows
 pub mod Runs
 pub mod SplitRecords
 pub mod TakeRecord
+pub mod Telling
+pub mod Tenants
 pub mod TextLists

@@ -348,6 +348,3 @@ bounds chain c =
       passed = omega arith;
       drops = λ p. let one = counts_at (reasons chain c) p in omega arith;
     }
-
-pub length_counts : (rs : List Reason) → length (counts_of rs) ≡ 9
-length_counts rs = refl

@@ -1,25 +1,27 @@
 -- The promises of a run, from what its parts did.
 use Rattle.std.proofs.Common.{◌≡◌, ◌≢◌, ◌⊎◌, inl, inr, ℕ, ◌≤◌, ◌<◌, Bool, true, false, cond, get_or, List, [], ◌∷◌, ◌++◌, refl, sym, ◌∙◌, ap, subst, arith}
-use Rattle.std.specs.Prelude.{Option, Some, None, IsSomeAnd, if◌then◌else◌, ◌==◌}
+use Rattle.std.specs.Prelude.{Option, Some, None, IsSomeAnd, IsTrue}
 use Rattle.std.specs.List.{AllByRecursion, list_all}
-use Rattle.brick_spec.specs.Capture.{Contents, IsFirstCapture}
+use Rattle.std.proofs.lemmas.Bool.{cases_eq}
+use Rattle.std.proofs.lemmas.List.{append-nil}
+use Rattle.brick_spec.specs.Capture.{Contents}
+use Rattle.brick_spec.specs.CaptureFault.{CaptureFault}
 use Rattle.brick_spec.specs.Chain.{Chain, file_names}
 use Rattle.brick_spec.specs.ChainFile.{IsChainFile, IsAccepted}
-use Rattle.brick_spec.specs.Tenant.{texts_of}
-use Rattle.brick_spec.specs.Report.{TenantEnd, Done, BadCapture, Line, Outcome, Usage, ChainsRefused, StoreFault, NoMemory, Reported, is_done, outcome_text, status_of, HasReport}
-use Rattle.brick_spec.specs.Cause.{Rose}
-use Rattle.brick_spec.specs.Files.{Files, FaultCounts, AllStay, AppendsFront}
-use Rattle.brick_spec.specs.Texts.{SomeRose}
-use Rattle.brick_spec.specs.Promise.{Seen, Says, IsRefused, Captured, IsBadCapture, HasWritten, MayHaveWritten, TenantLeaves, Leaves, ChainFaultRose, StoreFaultRose, NoneRose, Told, Shown, ChainFilePromise, CapturePromise, StoreFaultPromise, SinkFaultPromise, PartialFilesPromise, UntouchedPromise, OutputPromise, ReportPromise, CompletenessPromise, InlinePromises}
+use Rattle.brick_spec.specs.Tenant.{Tally, tally_of, texts_of}
+use Rattle.brick_spec.specs.Report.{TenantEnd, Done, TooLong, BadCapture, ReadFault, WriteFault, Line, line_text, Outcome, Usage, ChainsRefused, StoreFault, NoMemory, Reported, is_done, outcome_text, status_of, AllDone, IsAllDone, HasOther}
+use Rattle.brick_spec.specs.Cause.{Rose, reading_account, writing_account}
+use Rattle.brick_spec.specs.Files.{Files, FaultCounts, AllStay}
+use Rattle.brick_spec.specs.Texts.{OthersStayOf, SomeRose}
+use Rattle.brick_spec.specs.Promise.{Held, Seen, CountRose, Says, IsRefused, Captured, IsTooLong, IsBad, IsUnreadable, HasWritten, NoneTouched, MayHaveWritten, TenantPromises, tenant_line, IsReportOf, IsTrueOf, NoneRose, Told, Shown, ChainFilePromise, StoreFaultPromise, SinkFaultPromise, CapturePromise, PartialFilesPromise, UntouchedPromise, OutputPromise, ReportPromise, CompletenessPromise, InlinePromises}
 use Rattle.brick_spec.specs.CommandLine.{IsLineOf}
-use Rattle.pcap_io.proofs.Captures.{first_unique}
 use Rattle.bricks_main.proofs.ChainFiles.{one_chain}
-use Rattle.bricks_main.proofs.Runs.{some_both, wrote_may}
+use Rattle.bricks_main.proofs.Runs.{all_held_may, stops_may}
+use Rattle.bricks_main.proofs.Tenants.{some_both, captured_long, captured_bad, same_contents}
 
 -- what the parts of a run did
 pub record Ran (tells shows : Type 0) (chains out : List ℕ) (before now : Seen) (outcome : Outcome) (status : ℕ) : Type 0 where
-  pub leaves : tells → Leaves chains out before.files now.files outcome
-  pub fault : outcome ≡ StoreFault → StoreFaultRose tells chains out before.files before.faults now.faults
+  pub is_true : IsTrueOf tells chains out before.store now.store outcome
   pub told : Told outcome status
   pub sink : status ≡ 5 → Rose before.sink_faults now.sink_faults
   pub shown : shows → Shown outcome before.written now.written before.sink_faults now.sink_faults status
@@ -57,15 +59,60 @@ report_status lines = by (list_all is_done lines)
     by true = omega arith
     by false = omega arith
 
+-- under status 0 or 1 the outcome is a report
+low_status : (o : Outcome) (s : ℕ) → StatusIs o s → s ≤ 1 → (lines : List Line) × (o ≡ Reported lines) × (s ≡ status_of (Reported lines))
+low_status Usage s (inl is) low = absurd (omega arith)
+low_status Usage s (inr is) low = absurd (omega arith)
+low_status ChainsRefused s (inl is) low = absurd (omega arith)
+low_status ChainsRefused s (inr is) low = absurd (omega arith)
+low_status StoreFault s (inl is) low = absurd (omega arith)
+low_status StoreFault s (inr is) low = absurd (omega arith)
+low_status NoMemory s is low = absurd (omega arith)
+low_status (Reported lines) s (inl is) low = (lines, refl, is)
+low_status (Reported lines) s (inr (inl is)) low = absurd (omega arith)
+low_status (Reported lines) s (inr (inr is)) low = absurd (omega arith)
+
+-- and under status 5
+five_status : (o : Outcome) (s : ℕ) → StatusIs o s → s ≡ 5 → (lines : List Line) × (o ≡ Reported lines)
+five_status Usage s (inl is) e = absurd (omega arith)
+five_status Usage s (inr is) e = absurd (omega arith)
+five_status ChainsRefused s (inl is) e = absurd (omega arith)
+five_status ChainsRefused s (inr is) e = absurd (omega arith)
+five_status StoreFault s (inl is) e = absurd (omega arith)
+five_status StoreFault s (inr is) e = absurd (omega arith)
+five_status NoMemory s is e = absurd (omega arith)
+five_status (Reported lines) s is e = (lines, refl)
+
+zero_done : (lines : List Line) → status_of (Reported lines) ≡ 0 → AllDone lines
+zero_done lines e = by (list_all is_done lines) e
+  where
+    by : (b : Bool) → ◌≡◌ {A = ℕ} (cond b 0 1) 0 → IsTrue b
+    by true e = refl
+    by false e = absurd (omega arith)
+
+one_other : (lines : List Line) → status_of (Reported lines) ≡ 1 → ¬ (AllDone lines)
+one_other lines e done = by (list_all is_done lines) e done
+  where
+    by : (b : Bool) → ◌≡◌ {A = ℕ} (cond b 0 1) 1 → IsTrue b → ⊥
+    by true e done = omega arith
+    by false e done = cc
+
+-- the line of one tenant
+end_status : (chain : Chain) (end : TenantEnd) → status_of (Reported (tenant_line chain end ∷ [])) ≡ 0 → (tally : Tally) × (end ≡ Done tally)
+end_status chain (Done tally) e = (tally, refl)
+end_status chain TooLong e = absurd (omega arith)
+end_status chain (BadCapture f) e = absurd (omega arith)
+end_status chain ReadFault e = absurd (omega arith)
+end_status chain WriteFault e = absurd (omega arith)
+
+line_status : (chain : Chain) (end known : TenantEnd) (lines : List Line) → lines ≡ tenant_line chain end ∷ [] → end ≡ known → status_of (Reported lines) ≡ status_of (Reported (tenant_line chain known ∷ []))
+line_status chain end known lines is same = ap (λ ls. status_of (Reported ls)) is ∙ ap (λ e. status_of (Reported (tenant_line chain e ∷ []))) same
+
 -- WHAT CANNOT BOTH BE
 
 pub says_refused : (chains out : List ℕ) (files : Files) (chain : Chain) → Says chains out files chain → IsRefused chains out files → ⊥
 says_refused chains out files chain says refused =
     some_both (files chains) (λ bytes. IsChainFile chains out bytes chain) (λ bytes. ¬ (IsAccepted chains out bytes)) (λ bytes is none. none (chain, is)) says refused
-
-captured_bad : (files : Files) (chain : Chain) (c : Contents) → Captured files chain c → IsBadCapture files chain → ⊥
-captured_bad files chain c captured bad =
-    some_both (files chain.capture) (λ bytes. IsFirstCapture bytes c) (λ bytes. (d : Contents) → ¬ (IsFirstCapture bytes d)) (λ bytes is none. none c is) captured bad
 
 same_chain : (chains out : List ℕ) (files : Files) (a b : Chain) → Says chains out files a → Says chains out files b → a ≡ b
 same_chain chains out files a b s t = some_says (files chains) s t
@@ -74,175 +121,115 @@ same_chain chains out files a b s t = some_says (files chains) s t
     some_says None h k = absurd h
     some_says (Some bytes) h k = one_chain chains out bytes a b h k
 
-same_contents : (files : Files) (chain : Chain) (c d : Contents) → Captured files chain c → Captured files chain d → c ≡ d
-same_contents files chain c d s t = by (files chain.capture) s t
+-- THE REPORT OF THE CHAIN THAT THE CHAIN FILE SAYS
+
+record Reports (tells : Type 0) (out : List ℕ) (chain : Chain) (before now : Held) (lines : List Line) : Type 0 where
+  end : TenantEnd
+  is : lines ≡ tenant_line chain end ∷ []
+  tenant : TenantPromises tells 0 out chain before now end
+  others : OthersStayOf (file_names out chain) before.files now.files
+
+reports : (tells : Type 0) (chains out : List ℕ) (chain : Chain) (before now : Held) (lines : List Line) → tells → Says chains out before.files chain → IsReportOf tells chains out before now lines
+    → Reports tells out chain before now lines
+reports tells chains out chain before now lines t says r =
+    subst (λ x. Reports tells out x before now lines) (same_chain chains out before.files r.chain chain (r.says t) says) (record { end = r.end; is = r.is; tenant = r.tenant; others = r.others t })
+
+report_of : (tells : Type 0) (chains out : List ℕ) (before now : Held) (o : Outcome) (lines : List Line) → o ≡ Reported lines → IsTrueOf tells chains out before now o → IsReportOf tells chains out before now lines
+report_of tells chains out before now o lines e h = let P : Outcome → Type 0 = IsTrueOf tells chains out before now in subst P e h
+
+-- a capture that is not read gives a line that is not done, and no file
+unread : (tells : Type 0) (out : List ℕ) (chain : Chain) (before now : Held) (lines : List Line) → tells → IsUnreadable before.files chain → Reports tells out chain before now lines
+    → (status_of (Reported lines) ≡ 1) × NoneTouched out chain before.files now.files
+unread tells out chain before now lines t (inl long) r = by (((r.tenant).too_long t).comes long)
   where
-    by : (o : Option (List ℕ)) → IsSomeAnd o (λ bytes. IsFirstCapture bytes c) → IsSomeAnd o (λ bytes. IsFirstCapture bytes d) → c ≡ d
-    by None h k = absurd h
-    by (Some bytes) h k = first_unique bytes c d h k
-
-captured_of : (files : Files) (a b : Chain) (c : Contents) → a ≡ b → Captured files a c → Captured files b c
-captured_of files a b c e h = subst (λ x. Captured files x c) e h
-
--- CHAIN FILE
-
-chain_refused : (chains out : List ℕ) (old new : Files) (o : Outcome) (s : ℕ) → StatusIs o s → Leaves chains out old new o → s ≡ 3 → IsRefused chains out old
-chain_refused chains out old new Usage s is h e = absurd h
-chain_refused chains out old new ChainsRefused s is h e = h.0
-chain_refused chains out old new StoreFault s (inl is) h e = absurd (omega arith)
-chain_refused chains out old new StoreFault s (inr is) h e = absurd (omega arith)
-chain_refused chains out old new NoMemory s is h e = absurd (omega arith)
-chain_refused chains out old new (Reported lines) s (inl is) h e = absurd (omega (arith, report_status lines, is, e))
-chain_refused chains out old new (Reported lines) s (inr (inl is)) h e = absurd (omega arith)
-chain_refused chains out old new (Reported lines) s (inr (inr is)) h e = absurd (omega arith)
-
-store_fault_chain : (tells : Type 0) (chains out : List ℕ) (files : Files) (before now : FaultCounts) → tells → IsRefused chains out files
-    → StoreFaultRose tells chains out files before now → Rose (before 0 chains) (now 0 chains)
-store_fault_chain tells chains out files before now t refused (inl r) = r
-store_fault_chain tells chains out files before now t refused (inr h) = absurd (says_refused chains out files h.0 (h.1 t) refused)
-
-may_refused : (chains out : List ℕ) (old new : Files) → IsRefused chains out old → MayHaveWritten chains out old new → AllStay old new
-may_refused chains out old new refused (inl stay) = stay
-may_refused chains out old new refused (inr h) = absurd (says_refused chains out old h.0 h.2 refused)
-
-chain_comes : (tells : Type 0) (chains out : List ℕ) (old new : Files) (before now : FaultCounts) (o : Outcome) (s : ℕ) → tells → StatusIs o s → Leaves chains out old new o
-    → (o ≡ StoreFault → StoreFaultRose tells chains out old before now) → IsRefused chains out old
-    → (s ≡ 3) ⊎ ((s ≡ 4) × Rose (before 0 chains) (now 0 chains)) ⊎ (s ≡ 6)
-chain_comes tells chains out old new before now Usage s t is h fault refused = absurd h
-chain_comes tells chains out old new before now ChainsRefused s t (inl is) h fault refused = inl is
-chain_comes tells chains out old new before now ChainsRefused s t (inr is) h fault refused = inr (inr is)
-chain_comes tells chains out old new before now StoreFault s t (inl is) h fault refused = inr (inl (is, store_fault_chain tells chains out old before now t refused (fault refl)))
-chain_comes tells chains out old new before now StoreFault s t (inr is) h fault refused = inr (inr is)
-chain_comes tells chains out old new before now NoMemory s t is h fault refused = inr (inr is)
-chain_comes tells chains out old new before now (Reported lines) s t is h fault refused = absurd (says_refused chains out old h.0 h.2 refused)
-
-chain_files : (chains out : List ℕ) (old new : Files) (o : Outcome) → Leaves chains out old new o → IsRefused chains out old → AllStay old new
-chain_files chains out old new Usage h refused = absurd h
-chain_files chains out old new ChainsRefused h refused = h.1
-chain_files chains out old new StoreFault h refused = may_refused chains out old new refused h
-chain_files chains out old new NoMemory h refused = may_refused chains out old new refused h
-chain_files chains out old new (Reported lines) h refused = absurd (says_refused chains out old h.0 h.2 refused)
-
-pub chain_file_kept : (tells shows : Type 0) (chains out : List ℕ) (before now : Seen) (o : Outcome) (s : ℕ) → Ran tells shows chains out before now o s → tells → ChainFilePromise chains out before now s
-chain_file_kept tells shows chains out before now o s r t =
-    let is = status_is o s r.told in
-    let h = r.leaves t in
-    record {
-      refused = chain_refused chains out before.files now.files o s is h;
-      comes = chain_comes tells chains out before.files now.files before.faults now.faults o s t is h r.fault;
-      files = chain_files chains out before.files now.files o h;
-    }
-
--- CAPTURE
-
-capture_bad : (chains out : List ℕ) (old new : Files) (o : Outcome) (s : ℕ) → StatusIs o s → Leaves chains out old new o → s ≡ 1
-    → (chain : Chain) × Says chains out old chain × IsBadCapture old chain
-capture_bad chains out old new Usage s is h e = absurd h
-capture_bad chains out old new ChainsRefused s (inl is) h e = absurd (omega arith)
-capture_bad chains out old new ChainsRefused s (inr is) h e = absurd (omega arith)
-capture_bad chains out old new StoreFault s (inl is) h e = absurd (omega arith)
-capture_bad chains out old new StoreFault s (inr is) h e = absurd (omega arith)
-capture_bad chains out old new NoMemory s is h e = absurd (omega arith)
-capture_bad chains out old new (Reported lines) s is h e = by h.1 h.3 h.4 is
+    by : (r.end ≡ TooLong) ⊎ (r.end ≡ ReadFault) → (status_of (Reported lines) ≡ 1) × NoneTouched out chain before.files now.files
+    by (inl e) = (line_status chain r.end TooLong lines r.is e, ((r.tenant).no_files t).too_long e)
+    by (inr e) = (line_status chain r.end ReadFault lines r.is e, ((r.tenant).no_files t).read_fault e)
+unread tells out chain before now lines t (inr (fault, bad)) r = by (((r.tenant).bad_capture t).comes fault bad)
   where
-    by : (end : TenantEnd) → lines ≡ (record { name = h.0.name; end = end }) ∷ [] → TenantLeaves out h.0 old new end
-        → (s ≡ status_of (Reported lines)) ⊎ (s ≡ 5) ⊎ (s ≡ 6) → (chain : Chain) × Says chains out old chain × IsBadCapture old chain
-    by end l k (inr (inl is)) = absurd (omega arith)
-    by end l k (inr (inr is)) = absurd (omega arith)
-    by (Done tally) l k (inl is) = let z : status_of (Reported lines) ≡ 0 = ap (λ ls. status_of (Reported ls)) l in absurd (omega arith)
-    by BadCapture l k (inl is) = (h.0, h.2, k.0)
+    by : (r.end ≡ BadCapture fault) ⊎ (r.end ≡ ReadFault) → (status_of (Reported lines) ≡ 1) × NoneTouched out chain before.files now.files
+    by (inl e) = (line_status chain r.end (BadCapture fault) lines r.is e, ((r.tenant).no_files t).bad_capture fault e)
+    by (inr e) = (line_status chain r.end ReadFault lines r.is e, ((r.tenant).no_files t).read_fault e)
 
-capture_fault : (tells : Type 0) (chains out : List ℕ) (files : Files) (before now : FaultCounts) (chain : Chain) → tells → Says chains out files chain → IsBadCapture files chain
-    → StoreFaultRose tells chains out files before now → Rose (before 0 chains) (now 0 chains) ⊎ Rose (before 1 chain.capture) (now 1 chain.capture)
-capture_fault tells chains out files before now chain t says bad (inl r) = inl r
-capture_fault tells chains out files before now chain t says bad (inr h) = by h.2
+-- a capture that is read gives the meaning's counts and files, where no count rose
+read : (tells : Type 0) (out : List ℕ) (chain : Chain) (c : Contents) (before now : Held) (lines : List Line) → tells → Captured before.files chain c
+    → ¬ (CountRose (reading_account 0) chain.capture before now) → ¬ (SomeRose (writing_account 0) (file_names out chain) before.faults now.faults)
+    → (r : Reports tells out chain before now lines) → r.end ≡ Done (tally_of chain c)
+read tells out chain c before now lines t captured no_read no_write r = by (((r.tenant).done t).comes c captured)
   where
-    by : ChainFaultRose tells out h.0 files before now → Rose (before 0 chains) (now 0 chains) ⊎ Rose (before 1 chain.capture) (now 1 chain.capture)
-    by (inl r) = inr (subst (λ (x : Chain). Rose (before 1 x.capture) (now 1 x.capture)) (same_chain chains out files h.0 chain (h.1 t) says) r)
-    by (inr k) = absurd (captured_bad files chain (k.0 t).0 (captured_of files h.0 chain (k.0 t).0 (same_chain chains out files h.0 chain (h.1 t) says) (k.0 t).1) bad)
+    by : (r.end ≡ Done (tally_of chain c)) ⊎ (r.end ≡ ReadFault) ⊎ (r.end ≡ WriteFault) → r.end ≡ Done (tally_of chain c)
+    by (inl e) = e
+    by (inr (inl e)) = absurd (no_read (((r.tenant).read_fault).cause e))
+    by (inr (inr e)) = absurd (no_write (((r.tenant).write_fault).cause e))
 
-may_bad : (chains out : List ℕ) (old new : Files) (chain : Chain) → Says chains out old chain → IsBadCapture old chain → MayHaveWritten chains out old new → AllStay old new
-may_bad chains out old new chain says bad (inl stay) = stay
-may_bad chains out old new chain says bad (inr h) = absurd (captured_bad old chain h.1 (captured_of old h.0 chain h.1 (same_chain chains out old h.0 chain h.2 says) h.3) bad)
-
-capture_comes : (tells : Type 0) (chains out : List ℕ) (before now : Seen) (o : Outcome) (s : ℕ) → tells → StatusIs o s → Leaves chains out before.files now.files o
-    → (o ≡ StoreFault → StoreFaultRose tells chains out before.files before.faults now.faults) → (s ≡ 5 → Rose before.sink_faults now.sink_faults)
-    → (chain : Chain) → Says chains out before.files chain → IsBadCapture before.files chain
-    → (s ≡ 1) ⊎ ((s ≡ 5) × Rose before.sink_faults now.sink_faults)
-    ⊎ ((s ≡ 4) × (Rose (before.faults 0 chains) (now.faults 0 chains) ⊎ Rose (before.faults 1 chain.capture) (now.faults 1 chain.capture))) ⊎ (s ≡ 6)
-capture_comes tells chains out before now Usage s t is h fault sink chain says bad = absurd h
-capture_comes tells chains out before now ChainsRefused s t is h fault sink chain says bad = absurd (says_refused chains out before.files chain says h.0)
-capture_comes tells chains out before now StoreFault s t (inl is) h fault sink chain says bad = inr (inr (inl (is, capture_fault tells chains out before.files before.faults now.faults chain t says bad (fault refl))))
-capture_comes tells chains out before now StoreFault s t (inr is) h fault sink chain says bad = inr (inr (inr is))
-capture_comes tells chains out before now NoMemory s t is h fault sink chain says bad = inr (inr (inr is))
-capture_comes tells chains out before now (Reported lines) s t is h fault sink chain says bad = by h.1 h.3 h.4 is
+-- and where the status is 0
+read_done : (tells : Type 0) (out : List ℕ) (chain : Chain) (c : Contents) (before now : Held) (lines : List Line) → tells → Captured before.files chain c
+    → status_of (Reported lines) ≡ 0 → (r : Reports tells out chain before now lines) → r.end ≡ Done (tally_of chain c)
+read_done tells out chain c before now lines t captured zero r = by (((r.tenant).done t).comes c captured)
   where
-    by : (end : TenantEnd) → lines ≡ (record { name = h.0.name; end = end }) ∷ [] → TenantLeaves out h.0 before.files now.files end
-        → (s ≡ status_of (Reported lines)) ⊎ (s ≡ 5) ⊎ (s ≡ 6)
-        → (s ≡ 1) ⊎ ((s ≡ 5) × Rose before.sink_faults now.sink_faults)
-        ⊎ ((s ≡ 4) × (Rose (before.faults 0 chains) (now.faults 0 chains) ⊎ Rose (before.faults 1 chain.capture) (now.faults 1 chain.capture))) ⊎ (s ≡ 6)
-    by end l k (inr (inl is)) = inr (inl (is, sink is))
-    by end l k (inr (inr is)) = inr (inr (inr is))
-    by (Done tally) l k (inl is) = absurd (captured_bad before.files chain k.0 (captured_of before.files h.0 chain k.0 (same_chain chains out before.files h.0 chain h.2 says) k.1) bad)
-    by BadCapture l k (inl is) = inl (is ∙ ap (λ ls. status_of (Reported ls)) l)
+    by : (r.end ≡ Done (tally_of chain c)) ⊎ (r.end ≡ ReadFault) ⊎ (r.end ≡ WriteFault) → r.end ≡ Done (tally_of chain c)
+    by (inl e) = e
+    by (inr (inl e)) = let one : status_of (Reported lines) ≡ 1 = line_status chain r.end ReadFault lines r.is e in absurd (omega arith)
+    by (inr (inr e)) = let one : status_of (Reported lines) ≡ 1 = line_status chain r.end WriteFault lines r.is e in absurd (omega arith)
 
-capture_files : (chains out : List ℕ) (old new : Files) (o : Outcome) → Leaves chains out old new o → (chain : Chain) → Says chains out old chain → IsBadCapture old chain → AllStay old new
-capture_files chains out old new Usage h chain says bad = absurd h
-capture_files chains out old new ChainsRefused h chain says bad = h.1
-capture_files chains out old new StoreFault h chain says bad = may_bad chains out old new chain says bad h
-capture_files chains out old new NoMemory h chain says bad = may_bad chains out old new chain says bad h
-capture_files chains out old new (Reported lines) h chain says bad = by h.1 h.4
-  where
-    by : (end : TenantEnd) → TenantLeaves out h.0 old new end → AllStay old new
-    by (Done tally) k = absurd (captured_bad old chain k.0 (captured_of old h.0 chain k.0 (same_chain chains out old h.0 chain h.2 says) k.1) bad)
-    by BadCapture k = k.1
-
-pub capture_kept : (tells shows : Type 0) (chains out : List ℕ) (before now : Seen) (o : Outcome) (s : ℕ) → Ran tells shows chains out before now o s → tells → CapturePromise chains out before now s
-capture_kept tells shows chains out before now o s r t =
-    let is = status_is o s r.told in
-    let h = r.leaves t in
-    record {
-      bad = capture_bad chains out before.files now.files o s is h;
-      comes = capture_comes tells chains out before now o s t is h r.fault r.sink;
-      files = capture_files chains out before.files now.files o h;
-    }
-
--- FAULTS
-
-store_fault_of : (tells : Type 0) (chains out : List ℕ) (before now : Seen) (o : Outcome) (s : ℕ) → StatusIs o s
-    → (o ≡ StoreFault → StoreFaultRose tells chains out before.files before.faults now.faults) → s ≡ 4
-    → StoreFaultRose tells chains out before.files before.faults now.faults
-store_fault_of tells chains out before now Usage s (inl is) fault e = absurd (omega arith)
-store_fault_of tells chains out before now Usage s (inr is) fault e = absurd (omega arith)
-store_fault_of tells chains out before now ChainsRefused s (inl is) fault e = absurd (omega arith)
-store_fault_of tells chains out before now ChainsRefused s (inr is) fault e = absurd (omega arith)
-store_fault_of tells chains out before now StoreFault s is fault e = fault refl
-store_fault_of tells chains out before now NoMemory s is fault e = absurd (omega arith)
-store_fault_of tells chains out before now (Reported lines) s (inl is) fault e = absurd (omega (arith, report_status lines, is, e))
-store_fault_of tells chains out before now (Reported lines) s (inr (inl is)) fault e = absurd (omega arith)
-store_fault_of tells chains out before now (Reported lines) s (inr (inr is)) fault e = absurd (omega arith)
-
-pub store_fault_kept : (tells shows : Type 0) (chains out : List ℕ) (before now : Seen) (o : Outcome) (s : ℕ) → Ran tells shows chains out before now o s → StoreFaultPromise tells chains out before now s
-store_fault_kept tells shows chains out before now o s r = record { cause = store_fault_of tells chains out before now o s (status_is o s r.told) r.fault }
-
-pub sink_fault_kept : (tells shows : Type 0) (chains out : List ℕ) (before now : Seen) (o : Outcome) (s : ℕ) → Ran tells shows chains out before now o s → SinkFaultPromise before now s
-sink_fault_kept tells shows chains out before now o s r = record { cause = r.sink }
+written_of : (tells : Type 0) (out : List ℕ) (chain : Chain) (c : Contents) (before now : Held) (lines : List Line) → tells → Captured before.files chain c
+    → (r : Reports tells out chain before now lines) → r.end ≡ Done (tally_of chain c) → HasWritten out chain c now.files
+written_of tells out chain c before now lines t captured r e =
+    let m = ((r.tenant).done t).means (tally_of chain c) e in
+    subst (λ (d : Contents). HasWritten out chain d now.files) (same_contents before.files chain m.0 c m.1 captured) m.3
 
 -- FILES
 
-may_of : (chains out : List ℕ) (old new : Files) (o : Outcome) → Leaves chains out old new o → MayHaveWritten chains out old new
-may_of chains out old new Usage h = absurd h
-may_of chains out old new ChainsRefused h = inl h.1
-may_of chains out old new StoreFault h = h
-may_of chains out old new NoMemory h = h
-may_of chains out old new (Reported lines) h = by h.1 h.4
+same_text : (a b : List ℕ) → (a ≡ b) ⊎ (a ≡ b → ⊥)
+same_text [] [] = inl refl
+same_text [] (y ∷ ys) = inr (λ e. cc)
+same_text (x ∷ xs) [] = inr (λ e. cc)
+same_text (x ∷ xs) (y ∷ ys) = both (cases_eq x y) (same_text xs ys)
   where
-    by : (end : TenantEnd) → TenantLeaves out h.0 old new end → MayHaveWritten chains out old new
-    by (Done tally) k = inr (h.0, k.0, h.2, k.1, wrote_may (texts_of out h.0 k.0) old new k.3)
-    by BadCapture k = inl k.1
+    both : (x ≡ y) ⊎ (x ≡ y → ⊥) → (xs ≡ ys) ⊎ (xs ≡ ys → ⊥) → (x ∷ xs ≡ y ∷ ys) ⊎ (x ∷ xs ≡ y ∷ ys → ⊥)
+    both (inl e) (inl f) = inl (λ i. e i ∷ f i)
+    both (inl e) (inr d) = inr (λ same. d (cc))
+    both (inr d) rest = inr (λ same. d (cc))
+
+-- a name is another one than these, or keeps what it had as they do
+apart_or_kept : (old new : Files) (name : List ℕ) (names : List (List ℕ)) → AllByRecursion (λ n. new n ≡ old n) names → AllByRecursion (λ n. name ≢ n) names ⊎ (new name ≡ old name)
+apart_or_kept old new name [] stay = inl tt
+apart_or_kept old new name (n ∷ ns) stay = by (same_text name n) (apart_or_kept old new name ns stay.1)
+  where
+    by : (name ≡ n) ⊎ (name ≡ n → ⊥) → AllByRecursion (λ m. name ≢ m) ns ⊎ (new name ≡ old name) → AllByRecursion (λ m. name ≢ m) (n ∷ ns) ⊎ (new name ≡ old name)
+    by (inl e) rest = inr (ap new e ∙ stay.0 ∙ sym (ap old e))
+    by (inr d) (inl apart) = inl (d, apart)
+    by (inr d) (inr kept) = inr kept
+
+-- where the files of a run and all other names stay, every name does
+all_stay : (out : List ℕ) (chain : Chain) (old new : Files) → NoneTouched out chain old new → OthersStayOf (file_names out chain) old new → AllStay old new
+all_stay out chain old new none others name = by (apart_or_kept old new name (file_names out chain) none)
+  where
+    by : AllByRecursion (λ n. name ≢ n) (file_names out chain) ⊎ (new name ≡ old name) → new name ≡ old name
+    by (inl apart) = others name apart
+    by (inr kept) = kept
+
+may_end : (tells : Type 0) (chains out : List ℕ) (chain : Chain) (before now : Held) (end : TenantEnd) → tells → Says chains out before.files chain → TenantPromises tells 0 out chain before now end
+    → OthersStayOf (file_names out chain) before.files now.files → MayHaveWritten chains out before.files now.files
+may_end tells chains out chain before now (Done tally) t says p others =
+    let m = (p.done t).means tally refl in
+    inr (chain, m.0, says, m.1, record { each = all_held_may before.files now.files (texts_of out chain m.0) m.3; others = others })
+may_end tells chains out chain before now WriteFault t says p others =
+    let w = (p.write_fault).files t refl in
+    inr (chain, w.0, says, w.1, record { each = stops_may (λ text. CountRose (writing_account 0) text.name before now) before.files now.files (texts_of out chain w.0) w.2; others = others })
+may_end tells chains out chain before now TooLong t says p others = inl (all_stay out chain before.files now.files ((p.no_files t).too_long refl) others)
+may_end tells chains out chain before now (BadCapture f) t says p others = inl (all_stay out chain before.files now.files ((p.no_files t).bad_capture f refl) others)
+may_end tells chains out chain before now ReadFault t says p others = inl (all_stay out chain before.files now.files ((p.no_files t).read_fault refl) others)
+
+may_of : (tells : Type 0) (chains out : List ℕ) (before now : Held) (o : Outcome) → tells → IsTrueOf tells chains out before now o → MayHaveWritten chains out before.files now.files
+may_of tells chains out before now Usage t h = absurd h
+may_of tells chains out before now ChainsRefused t h = inl (h t).1
+may_of tells chains out before now StoreFault t h = inl (h.1 t)
+may_of tells chains out before now NoMemory t h = h t
+may_of tells chains out before now (Reported lines) t h = may_end tells chains out h.chain before now h.end t (h.says t) h.tenant (h.others t)
 
 pub partial_files_kept : (tells shows : Type 0) (chains out : List ℕ) (before now : Seen) (o : Outcome) (s : ℕ) → Ran tells shows chains out before now o s → tells → PartialFilesPromise chains out before now
-partial_files_kept tells shows chains out before now o s r t = record { at_most = may_of chains out before.files now.files o (r.leaves t) }
+partial_files_kept tells shows chains out before now o s r t = record { at_most = may_of tells chains out before.store now.store o t r.is_true }
 
 untouched_of : (chains out : List ℕ) (old new : Files) → MayHaveWritten chains out old new → (name : List ℕ)
     → ((chain : Chain) → Says chains out old chain → AllByRecursion (λ file. name ≢ file) (file_names out chain)) → new name ≡ old name
@@ -250,114 +237,239 @@ untouched_of chains out old new (inl stay) name none = stay name
 untouched_of chains out old new (inr h) name none = h.4.others name (none h.0 h.2)
 
 pub untouched_kept : (tells shows : Type 0) (chains out : List ℕ) (before now : Seen) (o : Outcome) (s : ℕ) → Ran tells shows chains out before now o s → tells → UntouchedPromise chains out before now
-untouched_kept tells shows chains out before now o s r t = record { stay = untouched_of chains out before.files now.files (may_of chains out before.files now.files o (r.leaves t)) }
+untouched_kept tells shows chains out before now o s r t = record { stay = untouched_of chains out before.store.files now.store.files (may_of tells chains out before.store now.store o t r.is_true) }
 
-output_done : (chains out : List ℕ) (old new : Files) (o : Outcome) (s : ℕ) → StatusIs o s → Leaves chains out old new o → s ≡ 0
-    → (chain : Chain) × (c : Contents) × Says chains out old chain × Captured old chain c
-output_done chains out old new Usage s is h e = absurd h
-output_done chains out old new ChainsRefused s (inl is) h e = absurd (omega arith)
-output_done chains out old new ChainsRefused s (inr is) h e = absurd (omega arith)
-output_done chains out old new StoreFault s (inl is) h e = absurd (omega arith)
-output_done chains out old new StoreFault s (inr is) h e = absurd (omega arith)
-output_done chains out old new NoMemory s is h e = absurd (omega arith)
-output_done chains out old new (Reported lines) s is h e = by h.1 h.3 h.4 is
-  where
-    by : (end : TenantEnd) → lines ≡ (record { name = h.0.name; end = end }) ∷ [] → TenantLeaves out h.0 old new end
-        → (s ≡ status_of (Reported lines)) ⊎ (s ≡ 5) ⊎ (s ≡ 6) → (chain : Chain) × (c : Contents) × Says chains out old chain × Captured old chain c
-    by end l k (inr (inl is)) = absurd (omega arith)
-    by end l k (inr (inr is)) = absurd (omega arith)
-    by (Done tally) l k (inl is) = (h.0, k.0, h.2, k.1)
-    by BadCapture l k (inl is) = let z : status_of (Reported lines) ≡ 1 = ap (λ ls. status_of (Reported ls)) l in absurd (omega arith)
+-- CHAIN FILE
 
-output_files : (chains out : List ℕ) (old new : Files) (o : Outcome) (s : ℕ) → StatusIs o s → Leaves chains out old new o → (s ≡ 0) ⊎ (s ≡ 5) → (chain : Chain) (c : Contents)
-    → Says chains out old chain → Captured old chain c → HasWritten out chain c old new
-output_files chains out old new Usage s is h e chain c says captured = absurd h
-output_files chains out old new ChainsRefused s is h e chain c says captured = absurd (says_refused chains out old chain says h.0)
-output_files chains out old new StoreFault s (inl is) h (inl e) chain c says captured = absurd (omega arith)
-output_files chains out old new StoreFault s (inl is) h (inr e) chain c says captured = absurd (omega arith)
-output_files chains out old new StoreFault s (inr is) h (inl e) chain c says captured = absurd (omega arith)
-output_files chains out old new StoreFault s (inr is) h (inr e) chain c says captured = absurd (omega arith)
-output_files chains out old new NoMemory s is h (inl e) chain c says captured = absurd (omega arith)
-output_files chains out old new NoMemory s is h (inr e) chain c says captured = absurd (omega arith)
-output_files chains out old new (Reported lines) s is h e chain c says captured = by h.1 h.4
+chain_refused : (tells : Type 0) (chains out : List ℕ) (before now : Held) (o : Outcome) (s : ℕ) → tells → StatusIs o s → IsTrueOf tells chains out before now o → s ≡ 3 → IsRefused chains out before.files
+chain_refused tells chains out before now Usage s t is h e = absurd h
+chain_refused tells chains out before now ChainsRefused s t is h e = (h t).0
+chain_refused tells chains out before now StoreFault s t (inl is) h e = absurd (omega arith)
+chain_refused tells chains out before now StoreFault s t (inr is) h e = absurd (omega arith)
+chain_refused tells chains out before now NoMemory s t is h e = absurd (omega arith)
+chain_refused tells chains out before now (Reported lines) s t (inl is) h e = absurd (omega (arith, report_status lines, is, e))
+chain_refused tells chains out before now (Reported lines) s t (inr (inl is)) h e = absurd (omega arith)
+chain_refused tells chains out before now (Reported lines) s t (inr (inr is)) h e = absurd (omega arith)
+
+chain_comes : (tells : Type 0) (chains out : List ℕ) (before now : Held) (o : Outcome) (s : ℕ) → tells → StatusIs o s → IsTrueOf tells chains out before now o → IsRefused chains out before.files
+    → (s ≡ 3) ⊎ ((s ≡ 4) × CountRose 0 chains before now) ⊎ (s ≡ 6)
+chain_comes tells chains out before now Usage s t is h refused = absurd h
+chain_comes tells chains out before now ChainsRefused s t (inl is) h refused = inl is
+chain_comes tells chains out before now ChainsRefused s t (inr is) h refused = inr (inr is)
+chain_comes tells chains out before now StoreFault s t (inl is) h refused = inr (inl (is, h.0))
+chain_comes tells chains out before now StoreFault s t (inr is) h refused = inr (inr is)
+chain_comes tells chains out before now NoMemory s t is h refused = inr (inr is)
+chain_comes tells chains out before now (Reported lines) s t is h refused = absurd (says_refused chains out before.files h.chain (h.says t) refused)
+
+may_refused : (chains out : List ℕ) (old new : Files) → IsRefused chains out old → MayHaveWritten chains out old new → AllStay old new
+may_refused chains out old new refused (inl stay) = stay
+may_refused chains out old new refused (inr h) = absurd (says_refused chains out old h.0 h.2 refused)
+
+pub chain_file_kept : (tells shows : Type 0) (chains out : List ℕ) (before now : Seen) (o : Outcome) (s : ℕ) → Ran tells shows chains out before now o s → tells → ChainFilePromise chains out before now s
+chain_file_kept tells shows chains out before now o s r t =
+    let is = status_is o s r.told in
+    record {
+      refused = chain_refused tells chains out before.store now.store o s t is r.is_true;
+      comes = chain_comes tells chains out before.store now.store o s t is r.is_true;
+      files = λ refused. may_refused chains out before.store.files now.store.files refused (may_of tells chains out before.store now.store o t r.is_true);
+    }
+
+-- FAULTS
+
+store_fault_of : (tells : Type 0) (chains out : List ℕ) (before now : Held) (o : Outcome) (s : ℕ) → StatusIs o s → IsTrueOf tells chains out before now o → s ≡ 4
+    → CountRose 0 chains before now × (tells → AllStay before.files now.files)
+store_fault_of tells chains out before now Usage s is h e = absurd h
+store_fault_of tells chains out before now ChainsRefused s (inl is) h e = absurd (omega arith)
+store_fault_of tells chains out before now ChainsRefused s (inr is) h e = absurd (omega arith)
+store_fault_of tells chains out before now StoreFault s is h e = h
+store_fault_of tells chains out before now NoMemory s is h e = absurd (omega arith)
+store_fault_of tells chains out before now (Reported lines) s (inl is) h e = absurd (omega (arith, report_status lines, is, e))
+store_fault_of tells chains out before now (Reported lines) s (inr (inl is)) h e = absurd (omega arith)
+store_fault_of tells chains out before now (Reported lines) s (inr (inr is)) h e = absurd (omega arith)
+
+pub store_fault_kept : (tells shows : Type 0) (chains out : List ℕ) (before now : Seen) (o : Outcome) (s : ℕ) → Ran tells shows chains out before now o s → StoreFaultPromise tells chains before now s
+store_fault_kept tells shows chains out before now o s r =
+    let is = status_is o s r.told in
+    record {
+      cause = λ e. (store_fault_of tells chains out before.store now.store o s is r.is_true e).0;
+      files = λ t e. (store_fault_of tells chains out before.store now.store o s is r.is_true e).1 t;
+    }
+
+pub sink_fault_kept : (tells shows : Type 0) (chains out : List ℕ) (before now : Seen) (o : Outcome) (s : ℕ) → Ran tells shows chains out before now o s → SinkFaultPromise before now s
+sink_fault_kept tells shows chains out before now o s r = record { cause = r.sink }
+
+-- CAPTURE
+
+capture_comes : (tells : Type 0) (chains out : List ℕ) (before now : Seen) (o : Outcome) (s : ℕ) → tells → StatusIs o s → IsTrueOf tells chains out before.store now.store o
+    → (s ≡ 5 → Rose before.sink_faults now.sink_faults) → (chain : Chain) → Says chains out before.store.files chain → IsUnreadable before.store.files chain
+    → (s ≡ 1) ⊎ ((s ≡ 5) × Rose before.sink_faults now.sink_faults) ⊎ ((s ≡ 4) × CountRose 0 chains before.store now.store) ⊎ (s ≡ 6)
+capture_comes tells chains out before now Usage s t is h sink chain says bad = absurd h
+capture_comes tells chains out before now ChainsRefused s t is h sink chain says bad = absurd (says_refused chains out before.store.files chain says (h t).0)
+capture_comes tells chains out before now StoreFault s t (inl is) h sink chain says bad = inr (inr (inl (is, h.0)))
+capture_comes tells chains out before now StoreFault s t (inr is) h sink chain says bad = inr (inr (inr is))
+capture_comes tells chains out before now NoMemory s t is h sink chain says bad = inr (inr (inr is))
+capture_comes tells chains out before now (Reported lines) s t (inl is) h sink chain says bad =
+    inl (is ∙ (unread tells out chain before.store now.store lines t bad (reports tells chains out chain before.store now.store lines t says h)).0)
+capture_comes tells chains out before now (Reported lines) s t (inr (inl is)) h sink chain says bad = inr (inl (is, sink is))
+capture_comes tells chains out before now (Reported lines) s t (inr (inr is)) h sink chain says bad = inr (inr (inr is))
+
+captured_unread : (tells : Type 0) (chains out : List ℕ) (before now : Held) (chain : Chain) → Says chains out before.files chain → IsUnreadable before.files chain
+    → (c : Contents) → Captured before.files chain c → ⊥
+captured_unread tells chains out before now chain says (inl long) c captured = captured_long before.files chain c captured long
+captured_unread tells chains out before now chain says (inr (f, bad)) c captured = captured_bad before.files chain c f captured bad
+
+capture_files : (tells : Type 0) (chains out : List ℕ) (before now : Held) (o : Outcome) → tells → IsTrueOf tells chains out before now o → (chain : Chain) → Says chains out before.files chain
+    → IsUnreadable before.files chain → AllStay before.files now.files
+capture_files tells chains out before now o t h chain says bad = by (may_of tells chains out before now o t h)
   where
-    by : (end : TenantEnd) → TenantLeaves out h.0 old new end → HasWritten out chain c old new
-    by (Done tally) k =
-        let same = same_chain chains out old h.0 chain h.2 says in
-        let contents = same_contents old chain k.0 c (captured_of old h.0 chain k.0 same k.1) captured in
-        subst (λ (d : Contents). HasWritten out chain d old new) contents (subst (λ (x : Chain). HasWritten out x k.0 old new) same k.3)
-    by BadCapture k = absurd (captured_bad old h.0 c (captured_of old chain h.0 c (sym (same_chain chains out old h.0 chain h.2 says)) captured) k.0)
+    by : MayHaveWritten chains out before.files now.files → AllStay before.files now.files
+    by (inl stay) = stay
+    by (inr w) = absurd (captured_unread tells chains out before now chain says bad w.1 (subst (λ (x : Chain). Captured before.files x w.1) (same_chain chains out before.files w.0 chain w.2 says) w.3))
+
+pub capture_kept : (tells shows : Type 0) (chains out : List ℕ) (before now : Seen) (o : Outcome) (s : ℕ) → Ran tells shows chains out before now o s → tells → CapturePromise chains out before now s
+capture_kept tells shows chains out before now o s r t = record {
+  comes = capture_comes tells chains out before now o s t (status_is o s r.told) r.is_true r.sink;
+  files = capture_files tells chains out before.store now.store o t r.is_true;
+}
+
+-- OUTPUT
+
+output_done : (tells : Type 0) (chains out : List ℕ) (before now : Held) (o : Outcome) (s : ℕ) → tells → StatusIs o s → IsTrueOf tells chains out before now o → s ≡ 0
+    → (chain : Chain) × (c : Contents) × Says chains out before.files chain × Captured before.files chain c
+output_done tells chains out before now o s t is h e =
+    let low = low_status o s is (omega arith) in
+    let r = report_of tells chains out before now o low.0 low.1 h in
+    let d = end_status r.chain r.end (sym (ap (λ ls. status_of (Reported ls)) r.is) ∙ sym low.2 ∙ e) in
+    let m = ((r.tenant).done t).means d.0 d.1 in
+    (r.chain, m.0, r.says t, m.1)
+
+output_files : (tells : Type 0) (chains out : List ℕ) (before now : Held) (o : Outcome) (s : ℕ) → tells → StatusIs o s → IsTrueOf tells chains out before now o → s ≡ 0 → (chain : Chain) (c : Contents)
+    → Says chains out before.files chain → Captured before.files chain c → HasWritten out chain c now.files
+output_files tells chains out before now o s t is h e chain c says captured =
+    let low = low_status o s is (omega arith) in
+    let r = reports tells chains out chain before now low.0 t says (report_of tells chains out before now o low.0 low.1 h) in
+    written_of tells out chain c before now low.0 t captured r (read_done tells out chain c before now low.0 t captured (sym low.2 ∙ e) r)
+
+output_unreported : (tells : Type 0) (chains out : List ℕ) (before now : Held) (o : Outcome) (s : ℕ) → tells → StatusIs o s → IsTrueOf tells chains out before now o → s ≡ 5 → (chain : Chain) (c : Contents)
+    → Says chains out before.files chain → Captured before.files chain c → ¬ (CountRose (reading_account 0) chain.capture before now)
+    → ¬ (SomeRose (writing_account 0) (file_names out chain) before.faults now.faults) → HasWritten out chain c now.files
+output_unreported tells chains out before now o s t is h e chain c says captured no_read no_write =
+    let five = five_status o s is e in
+    let r = reports tells chains out chain before now five.0 t says (report_of tells chains out before now o five.0 five.1 h) in
+    written_of tells out chain c before now five.0 t captured r (read tells out chain c before now five.0 t captured no_read no_write r)
 
 pub output_kept : (tells shows : Type 0) (chains out : List ℕ) (before now : Seen) (o : Outcome) (s : ℕ) → Ran tells shows chains out before now o s → tells → OutputPromise chains out before now s
 output_kept tells shows chains out before now o s r t =
     let is = status_is o s r.told in
-    let h = r.leaves t in
-    record { done = output_done chains out before.files now.files o s is h; files = output_files chains out before.files now.files o s is h }
+    record {
+      done = output_done tells chains out before.store now.store o s t is r.is_true;
+      files = output_files tells chains out before.store now.store o s t is r.is_true;
+      unreported = output_unreported tells chains out before.store now.store o s t is r.is_true;
+    }
 
--- REPORT AND COMPLETENESS
+-- REPORT
+
+all_done_of : (o : Outcome) (s : ℕ) → StatusIs o s → s ≡ 0 → IsAllDone o
+all_done_of o s is e = let low = low_status o s is (omega arith) in subst IsAllDone (sym low.1) (zero_done low.0 (sym low.2 ∙ e))
+
+some_other_of : (o : Outcome) (s : ℕ) → StatusIs o s → s ≡ 1 → HasOther o
+some_other_of o s is e = let low = low_status o s is (omega arith) in subst HasOther (sym low.1) (one_other low.0 (sym low.2 ∙ e))
+
+-- the report of a line
+line_written : (o : Outcome) (s : ℕ) (before now : Seen) (lines : List Line) (chain : Chain) (end known : TenantEnd) → Shown o before.written now.written before.sink_faults now.sink_faults s → s ≤ 1
+    → o ≡ Reported lines → lines ≡ tenant_line chain end ∷ [] → end ≡ known → now.written ≡ before.written ++ line_text (tenant_line chain known)
+line_written o s before now lines chain end known shown low e is same =
+    shown.report low ∙ ap (λ x. before.written ++ outcome_text x) (e ∙ ap Reported is) ∙ ap (λ x. before.written ++ x) (append-nil (line_text (tenant_line chain end)))
+    ∙ ap (λ x. before.written ++ line_text (tenant_line chain x)) same
+
+report_done : (tells shows : Type 0) (chains out : List ℕ) (before now : Seen) (o : Outcome) (s : ℕ) → Ran tells shows chains out before now o s → tells → shows → s ≡ 0 → (chain : Chain) (c : Contents)
+    → Says chains out before.store.files chain → Captured before.store.files chain c → now.written ≡ before.written ++ line_text (tenant_line chain (Done (tally_of chain c)))
+report_done tells shows chains out before now o s r t w e chain c says captured =
+    let low = low_status o s (status_is o s r.told) (omega arith) in
+    let p = reports tells chains out chain before.store now.store low.0 t says (report_of tells chains out before.store now.store o low.0 low.1 r.is_true) in
+    line_written o s before now low.0 chain p.end (Done (tally_of chain c)) (r.shown w) (omega arith) low.1 p.is (read_done tells out chain c before.store now.store low.0 t captured (sym low.2 ∙ e) p)
+
+report_too_long : (tells shows : Type 0) (chains out : List ℕ) (before now : Seen) (o : Outcome) (s : ℕ) → Ran tells shows chains out before now o s → tells → shows → s ≡ 1 → (chain : Chain)
+    → Says chains out before.store.files chain → IsTooLong before.store.files chain → ¬ (CountRose (reading_account 0) chain.capture before.store now.store)
+    → now.written ≡ before.written ++ line_text (tenant_line chain TooLong)
+report_too_long tells shows chains out before now o s r t w e chain says long no_read =
+    let low = low_status o s (status_is o s r.told) (omega arith) in
+    let p = reports tells chains out chain before.store now.store low.0 t says (report_of tells chains out before.store now.store o low.0 low.1 r.is_true) in
+    line_written o s before now low.0 chain p.end TooLong (r.shown w) (omega arith) low.1 p.is (by p (((p.tenant).too_long t).comes long))
+  where
+    by : {lines : List Line} (p : Reports tells out chain before.store now.store lines) → (p.end ≡ TooLong) ⊎ (p.end ≡ ReadFault) → p.end ≡ TooLong
+    by p (inl is) = is
+    by p (inr is) = absurd (no_read (((p.tenant).read_fault).cause is))
+
+report_bad : (tells shows : Type 0) (chains out : List ℕ) (before now : Seen) (o : Outcome) (s : ℕ) → Ran tells shows chains out before now o s → tells → shows → s ≡ 1 → (chain : Chain) (f : CaptureFault)
+    → Says chains out before.store.files chain → IsBad before.store.files chain f → ¬ (CountRose (reading_account 0) chain.capture before.store now.store)
+    → now.written ≡ before.written ++ line_text (tenant_line chain (BadCapture f))
+report_bad tells shows chains out before now o s r t w e chain f says bad no_read =
+    let low = low_status o s (status_is o s r.told) (omega arith) in
+    let p = reports tells chains out chain before.store now.store low.0 t says (report_of tells chains out before.store now.store o low.0 low.1 r.is_true) in
+    line_written o s before now low.0 chain p.end (BadCapture f) (r.shown w) (omega arith) low.1 p.is (by p (((p.tenant).bad_capture t).comes f bad))
+  where
+    by : {lines : List Line} (p : Reports tells out chain before.store now.store lines) → (p.end ≡ BadCapture f) ⊎ (p.end ≡ ReadFault) → p.end ≡ BadCapture f
+    by p (inl is) = is
+    by p (inr is) = absurd (no_read (((p.tenant).read_fault).cause is))
 
 pub report_kept : (tells shows : Type 0) (chains out : List ℕ) (before now : Seen) (o : Outcome) (s : ℕ) → Ran tells shows chains out before now o s → ReportPromise tells shows chains out before now s
-report_kept tells shows chains out before now o s r = record { outcome = o; told = r.told; shown = r.shown; true_of = r.leaves }
+report_kept tells shows chains out before now o s r =
+    let is = status_is o s r.told in
+    record {
+      outcome = o;
+      told = r.told;
+      all_done = all_done_of o s is;
+      some_other = some_other_of o s is;
+      shown = r.shown;
+      true_of = r.is_true;
+      done = report_done tells shows chains out before now o s r;
+      too_long = report_too_long tells shows chains out before now o s r;
+      bad_capture = report_bad tells shows chains out before now o s r;
+    }
+
+-- COMPLETENESS
 
 none_of : (account : ℕ) (names : List (List ℕ)) (before now : FaultCounts) → ((a : ℕ) (n : List ℕ) → ¬ (Rose (before a n) (now a n))) → SomeRose account names before now → ⊥
 none_of account [] before now none r = r
 none_of account (n ∷ ns) before now none (inl r) = none account n r
 none_of account (n ∷ ns) before now none (inr r) = none_of account ns before now none r
 
-no_fault : (tells : Type 0) (chains out : List ℕ) (before now : Seen) → NoneRose before now → StoreFaultRose tells chains out before.files before.faults now.faults → ⊥
-no_fault tells chains out before now none (inl r) = none.store 0 chains r
-no_fault tells chains out before now none (inr h) = by h.2
-  where
-    by : ChainFaultRose tells out h.0 before.files before.faults now.faults → ⊥
-    by (inl r) = none.store 1 h.0.capture r
-    by (inr k) = none_of 2 (file_names out h.0) before.faults now.faults none.store k.1
-
-complete_of : (tells : Type 0) (chains out : List ℕ) (before now : Seen) (o : Outcome) (s : ℕ) → StatusIs o s → Leaves chains out before.files now.files o
-    → (o ≡ StoreFault → StoreFaultRose tells chains out before.files before.faults now.faults) → (s ≡ 5 → Rose before.sink_faults now.sink_faults)
-    → (chain : Chain) (c : Contents) → Says chains out before.files chain → Captured before.files chain c → NoneRose before now → (s ≡ 0) ⊎ (s ≡ 6)
-complete_of tells chains out before now Usage s is h fault sink chain c says captured none = absurd h
-complete_of tells chains out before now ChainsRefused s is h fault sink chain c says captured none = absurd (says_refused chains out before.files chain says h.0)
-complete_of tells chains out before now StoreFault s is h fault sink chain c says captured none = absurd (no_fault tells chains out before now none (fault refl))
-complete_of tells chains out before now NoMemory s is h fault sink chain c says captured none = inr is
-complete_of tells chains out before now (Reported lines) s is h fault sink chain c says captured none = by h.1 h.3 h.4 is
-  where
-    by : (end : TenantEnd) → lines ≡ (record { name = h.0.name; end = end }) ∷ [] → TenantLeaves out h.0 before.files now.files end
-        → (s ≡ status_of (Reported lines)) ⊎ (s ≡ 5) ⊎ (s ≡ 6) → (s ≡ 0) ⊎ (s ≡ 6)
-    by end l k (inr (inl is)) = absurd (none.sink (sink is))
-    by end l k (inr (inr is)) = inr is
-    by (Done tally) l k (inl is) = inl (is ∙ ap (λ ls. status_of (Reported ls)) l)
-    by BadCapture l k (inl is) = absurd (captured_bad before.files h.0 c (captured_of before.files chain h.0 c (sym (same_chain chains out before.files h.0 chain h.2 says)) captured) k.0)
+complete_of : (tells : Type 0) (chains out : List ℕ) (before now : Seen) (o : Outcome) (s : ℕ) → tells → StatusIs o s → IsTrueOf tells chains out before.store now.store o
+    → (s ≡ 5 → Rose before.sink_faults now.sink_faults) → (chain : Chain) (c : Contents) → Says chains out before.store.files chain → Captured before.store.files chain c → NoneRose before now → (s ≡ 0) ⊎ (s ≡ 6)
+complete_of tells chains out before now Usage s t is h sink chain c says captured none = absurd h
+complete_of tells chains out before now ChainsRefused s t is h sink chain c says captured none = absurd (says_refused chains out before.store.files chain says (h t).0)
+complete_of tells chains out before now StoreFault s t is h sink chain c says captured none = absurd (none.store 0 chains h.0)
+complete_of tells chains out before now NoMemory s t is h sink chain c says captured none = inr is
+complete_of tells chains out before now (Reported lines) s t (inl is) h sink chain c says captured none =
+    let r = reports tells chains out chain before.store now.store lines t says h in
+    let e = read tells out chain c before.store now.store lines t captured (none.store (reading_account 0) chain.capture) (none_of (writing_account 0) (file_names out chain) before.store.faults now.store.faults none.store) r in
+    inl (is ∙ line_status chain r.end (Done (tally_of chain c)) lines r.is e)
+complete_of tells chains out before now (Reported lines) s t (inr (inl is)) h sink chain c says captured none = absurd (none.sink (sink is))
+complete_of tells chains out before now (Reported lines) s t (inr (inr is)) h sink chain c says captured none = inr is
 
 pub completeness_kept : (tells shows : Type 0) (chains out : List ℕ) (before now : Seen) (o : Outcome) (s : ℕ) → Ran tells shows chains out before now o s → tells → CompletenessPromise chains out before now s
-completeness_kept tells shows chains out before now o s r t = record { succeeds = complete_of tells chains out before now o s (status_is o s r.told) (r.leaves t) r.fault r.sink }
+completeness_kept tells shows chains out before now o s r t = record { succeeds = complete_of tells chains out before now o s t (status_is o s r.told) r.is_true r.sink }
 
-pub known_status : (o : Outcome) (s : ℕ) → Told o s → o ≢ Usage → s ≢ 2
-known_status Usage s told line e = line refl
-known_status ChainsRefused s told line e = by (status_is ChainsRefused s told)
-  where
-    by : (s ≡ 3) ⊎ (s ≡ 6) → ⊥
-    by (inl is) = omega arith
-    by (inr is) = omega arith
-known_status StoreFault s told line e = by (status_is StoreFault s told)
-  where
-    by : (s ≡ 4) ⊎ (s ≡ 6) → ⊥
-    by (inl is) = omega arith
-    by (inr is) = omega arith
-known_status NoMemory s told line e = let is = status_is NoMemory s told in omega arith
-known_status (Reported lines) s told line e = by (status_is (Reported lines) s told)
-  where
-    by : (s ≡ status_of (Reported lines)) ⊎ (s ≡ 5) ⊎ (s ≡ 6) → ⊥
-    by (inl is) = omega (arith, report_status lines, is)
-    by (inr (inl is)) = omega arith
-    by (inr (inr is)) = omega arith
+-- the words were a line
+known_status : (tells : Type 0) (chains out : List ℕ) (before now : Held) (o : Outcome) (s : ℕ) → StatusIs o s → IsTrueOf tells chains out before now o → s ≢ 2
+known_status tells chains out before now Usage s is h e = h
+known_status tells chains out before now ChainsRefused s (inl is) h e = omega arith
+known_status tells chains out before now ChainsRefused s (inr is) h e = omega arith
+known_status tells chains out before now StoreFault s (inl is) h e = omega arith
+known_status tells chains out before now StoreFault s (inr is) h e = omega arith
+known_status tells chains out before now NoMemory s is h e = omega arith
+known_status tells chains out before now (Reported lines) s (inl is) h e = omega (arith, report_status lines, is)
+known_status tells chains out before now (Reported lines) s (inr (inl is)) h e = omega arith
+known_status tells chains out before now (Reported lines) s (inr (inr is)) h e = omega arith
 
-pub promises_kept : (tells shows : Type 0) (chains out : List ℕ) (before now : Seen) (o : Outcome) (s : ℕ) → o ≢ Usage → Ran tells shows chains out before now o s → InlinePromises tells shows chains out before now s
-promises_kept tells shows chains out before now o s line r = record {
-  line = known_status o s r.told line;
+pub promises_kept : (tells shows : Type 0) (chains out : List ℕ) (before now : Seen) (o : Outcome) (s : ℕ) → Ran tells shows chains out before now o s → InlinePromises tells shows chains out before now s
+promises_kept tells shows chains out before now o s r = record {
+  line = known_status tells chains out before.store now.store o s (status_is o s r.told) r.is_true;
   chain_file = λ t. chain_file_kept tells shows chains out before now o s r t;
-  capture = λ t. capture_kept tells shows chains out before now o s r t;
   store_fault = store_fault_kept tells shows chains out before now o s r;
   sink_fault = sink_fault_kept tells shows chains out before now o s r;
+  capture = λ t. capture_kept tells shows chains out before now o s r t;
   partial_files = λ t. partial_files_kept tells shows chains out before now o s r t;
   untouched = λ t. untouched_kept tells shows chains out before now o s r t;
   output = λ t. output_kept tells shows chains out before now o s r t;
@@ -379,61 +491,3 @@ pub promises_of_line : (tells shows : Type 0) (a b c d : List ℕ) (words : List
 promises_of_line tells shows a b c d words before now s h k p =
     let same = one_line_of a b c d words h k in
     subst (λ x. InlinePromises tells shows c x before now s) same.1 (subst (λ x. InlinePromises tells shows x b before now s) same.0 p)
-
--- WHAT THE SINK IS TOLD
-
-told_front : (o : Outcome) (s : ℕ) (old new : List ℕ) → s ≡ status_of o → AppendsFront (outcome_text o) old new → AppendsFront (outcome_text (if s == 6 then NoMemory else o)) old new
-told_front o s old new e h = subst (λ n. AppendsFront (outcome_text (if n == 6 then NoMemory else o)) old new) (sym e) (by o h)
-  where
-    by : (p : Outcome) → AppendsFront (outcome_text p) old new → AppendsFront (outcome_text (if status_of p == 6 then NoMemory else p)) old new
-    by Usage h = h
-    by ChainsRefused h = h
-    by StoreFault h = h
-    by NoMemory h = h
-    by (Reported lines) h = of_lines (list_all is_done lines)
-      where
-        of_lines : (b : Bool) → AppendsFront (outcome_text (if (cond b 0 1) == 6 then NoMemory else Reported lines)) old new
-        of_lines true = h
-        of_lines false = h
-
--- all was written
-pub shown_ok : (o : Outcome) (s : ℕ) (text old new : List ℕ) (before now : ℕ) → text ≡ outcome_text o → s ≡ status_of o → new ≡ old ++ text → Shown o old new before now s
-shown_ok o s text old new before now t e w =
-    let whole : new ≡ old ++ outcome_text o = w ∙ ap (λ x. old ++ x) t in
-    record { front = told_front o s old new e (outcome_text o, ([], sym (append_nil (outcome_text o))), whole); whole = inl whole; report = λ low. whole }
-  where
-    append_nil : (xs : List ℕ) → xs ++ [] ≡ xs
-    append_nil [] = refl
-    append_nil (x ∷ xs) = ap (λ l. x ∷ l) (append_nil xs)
-
--- memory ran out on the way
-pub shown_no_memory : (o : Outcome) (s : ℕ) (old new : List ℕ) (before now : ℕ) → s ≡ 6 → AppendsFront (outcome_text NoMemory) old new → Shown o old new before now s
-shown_no_memory o s old new before now e h = record {
-  front = subst (λ n. AppendsFront (outcome_text (if n == 6 then NoMemory else o)) old new) (sym e) h;
-  whole = inr (inl e);
-  report = λ low. absurd (omega arith);
-}
-
--- the write of a text that is no report failed
-pub shown_failed : (o : Outcome) (s : ℕ) (text old new : List ℕ) (before now : ℕ) → text ≡ outcome_text o → s ≡ status_of o → 1 < s → Rose before now → AppendsFront text old new → Shown o old new before now s
-shown_failed o s text old new before now t e high rose h = record {
-  front = told_front o s old new e (subst (λ x. AppendsFront x old new) t h);
-  whole = inr (inr rose);
-  report = λ low. absurd (omega arith);
-}
-
--- the write of a report failed
-pub shown_unreported : (o : Outcome) (s : ℕ) (text old new : List ℕ) (before now : ℕ) → text ≡ outcome_text o → s ≡ 5 → Rose before now → AppendsFront text old new → Shown o old new before now s
-shown_unreported o s text old new before now t e rose h = record {
-  front = subst (λ n. AppendsFront (outcome_text (if n == 6 then NoMemory else o)) old new) (sym e) (subst (λ x. AppendsFront x old new) t h);
-  whole = inr (inr rose);
-  report = λ low. absurd (omega arith);
-}
-
--- the status of an outcome that is no report
-pub other_status : (o : Outcome) → ¬ (HasReport o) → 1 < status_of o
-other_status Usage none = omega arith
-other_status ChainsRefused none = omega arith
-other_status StoreFault none = omega arith
-other_status NoMemory none = omega arith
-other_status (Reported lines) none = absurd (none tt)

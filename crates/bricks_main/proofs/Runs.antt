@@ -2,21 +2,24 @@
 use Rattle.std.proofs.Common.{◌≡◌, ◌≢◌, ◌⊎◌, inl, inr, ℕ, ◌≤◌, ◌<◌, List, [], ◌∷◌, ◌++◌, length, refl, sym, ◌∙◌, ap, subst, arith, append_assoc, length-append, Option, Some, None, IsSomeAnd}
 use Rattle.std.specs.Prelude.{codes, IsTrue, nat_le, true}
 use Rattle.std.specs.List.{AllByRecursion}
+use Rattle.std.proofs.lemmas.List.{append-nil}
 use Rattle.std.proofs.lemmas.Bool.{and_parts}
 use Rattle.std.proofs.lemmas.Bool.Decides.{nat_tests}
 use Rattle.brick_spec.specs.Capture.{Contents}
 use Rattle.brick_spec.specs.Name.{is_name, is_path}
 use Rattle.brick_spec.specs.Stage.{Protocol, Icmp, Tcp, Udp, protocol_name}
-use Rattle.brick_spec.specs.Chain.{Chain, output_file, refused_file}
+use Rattle.brick_spec.specs.Chain.{Chain, output_file, refused_file, file_names}
 use Rattle.brick_spec.specs.ChainFile.{chain_text, IsAccepted}
 use Rattle.brick_spec.specs.Tenant.{texts_of}
 use Rattle.std.proofs.Math.Path.{fun_ext}
 use Rattle.brick_spec.specs.Files.{Files, FaultCounts, AllStay, IsPrefix}
-use Rattle.brick_spec.specs.Chain.{file_names}
-use Rattle.brick_spec.specs.Report.{Outcome, Usage, ChainsRefused, StoreFault, NoMemory, Reported}
-use Rattle.brick_spec.specs.Promise.{Says, IsRefused, Captured, MayHaveWritten, Leaves, ChainFaultRose, StoreFaultRose}
-use Rattle.bricks_main.specs.Run.{ChainMayWrite, ChainLeaves}
-use Rattle.brick_spec.specs.Texts.{Text, Holds, MayHold, Wrote, MayWrite, Untouched, StopsWithin, WritesTexts, AreDistinct, SomeRose}
+use Rattle.brick_spec.specs.Cause.{reading_account, writing_account}
+use Rattle.brick_spec.specs.Report.{TenantEnd, Done, TooLong, BadCapture, ReadFault, WriteFault, Outcome, Usage, ChainsRefused, StoreFault, NoMemory, Reported}
+use Rattle.brick_spec.specs.Promise.{Held, held, CountRose, Says, IsRefused, MayHaveWritten, IsTrueOf}
+use Rattle.brick_spec.specs.Texts.{Text, Holds, MayHold, Untouched, MayWrite, StopsWithin, WritesTexts, AreDistinct}
+use Rattle.bricks_main.specs.Run.{ChainMayWrite, TenantLeaves, TenantCause, ChainRan}
+use Rattle.bricks_main.proofs.Tenants.{reported}
+use Rattle.bricks_main.proofs.TextLists.{stops_for, some_then}
 
 -- THE NAMES OF THE TWO FILES
 
@@ -76,13 +79,9 @@ accepted_short chains out bytes (chain, (p, h)) =
 
 -- what is whole holds a prefix
 held_may : (old new : Files) (t : Text) → Holds new t → MayHold old new t
-held_may old new t h = inr (subst (λ (o : Option (List ℕ)). IsSomeAnd o (λ bytes. IsPrefix bytes t.bytes)) (sym h) ([], sym (append_nil t.bytes)))
-  where
-    append_nil : (xs : List ℕ) → xs ++ [] ≡ xs
-    append_nil [] = refl
-    append_nil (x ∷ xs) = ap (λ l. x ∷ l) (append_nil xs)
+held_may old new t h = inr (subst (λ (o : Option (List ℕ)). IsSomeAnd o (λ bytes. IsPrefix bytes t.bytes)) (sym h) ([], sym (append-nil t.bytes)))
 
-all_held_may : (old new : Files) (ts : List Text) → AllByRecursion (Holds new) ts → AllByRecursion (MayHold old new) ts
+pub all_held_may : (old new : Files) (ts : List Text) → AllByRecursion (Holds new) ts → AllByRecursion (MayHold old new) ts
 all_held_may old new [] h = tt
 all_held_may old new (t ∷ ts) h = (held_may old new t h.0, all_held_may old new ts h.1)
 
@@ -90,23 +89,19 @@ untouched_may : (old new : Files) (ts : List Text) → Untouched old new ts → 
 untouched_may old new [] h = tt
 untouched_may old new (t ∷ ts) h = (inl h.0, untouched_may old new ts h.1)
 
-stops_may : (why : Text → Type 0) (old new : Files) (ts : List Text) → StopsWithin why old new ts → AllByRecursion (MayHold old new) ts
+pub stops_may : (why : Text → Type 0) (old new : Files) (ts : List Text) → StopsWithin why old new ts → AllByRecursion (MayHold old new) ts
 stops_may why old new [] h = absurd h
 stops_may why old new (t ∷ ts) (inl stop) = (stop.1, untouched_may old new ts stop.2)
 stops_may why old new (t ∷ ts) (inr goes) = (held_may old new t goes.0, stops_may why old new ts goes.1)
 
-pub wrote_may : (texts : List Text) (old new : Files) → Wrote texts old new → MayWrite texts old new
-wrote_may texts old new w = record { each = all_held_may old new texts w.each; others = w.others }
+-- where writing is not done each file may hold a prefix
+pub writes_may : (done : Type 0) (why : Text → Type 0) (texts : List Text) (old new : Files) → ¬ done → WritesTexts done why texts old new → MayWrite texts old new
+writes_may done why texts old new failed w = record { each = stops_may why old new texts (w.stops failed); others = w.others }
 
-pub writes_may : (done : Type 0) (why : Text → Type 0) (texts : List Text) (old new : Files) → WritesTexts done why texts old new → MayWrite texts old new
-writes_may done why texts old new w = record { each = by w.some; others = w.others }
-  where
-    by : AllByRecursion (Holds new) texts ⊎ StopsWithin why old new texts → AllByRecursion (MayHold old new) texts
-    by (inl all) = all_held_may old new texts all
-    by (inr stops) = stops_may why old new texts stops
-
-pub writes_done : (done : Type 0) (why : Text → Type 0) (texts : List Text) (old new : Files) → done → WritesTexts done why texts old new → Wrote texts old new
-writes_done done why texts old new d w = record { each = w.all d; others = w.others }
+-- texts that are written after a read that left all
+pub writes_after : (done : Type 0) (why : Text → Type 0) (texts others : List Text) (old mid new : Files) → AllStay old mid → texts ≡ others → WritesTexts done why texts mid new → WritesTexts done why others old new
+writes_after done why texts others old mid new stay same w =
+    subst (λ (f : Files). WritesTexts done why others f new) (fun_ext stay) (subst (λ (ts : List Text). WritesTexts done why ts mid new) same w)
 
 pub distinct_texts : (out : List ℕ) (chain : Chain) (c : Contents) → AreDistinct (texts_of out chain c)
 distinct_texts out chain c = ((files_apart out chain.name chain.group, tt), (tt, tt))
@@ -134,38 +129,46 @@ long_refused chains out files h =
 
 -- WHAT A RUN LEFT, AFTER A READ THAT LEFT ALL
 
-pub may_after : (texts : List Text) (old mid new : Files) → AllStay old mid → MayWrite texts mid new → MayWrite texts old new
-may_after texts old mid new stay w = subst (λ (f : Files). MayWrite texts f new) (fun_ext stay) w
+-- no count falls
+abbrev pub Later : Held → Held → Type 0
+Later before mid = (a : ℕ) (n : List ℕ) → before.faults a n ≤ mid.faults a n
 
-pub wrote_after : (texts : List Text) (old mid new : Files) → AllStay old mid → Wrote texts mid new → Wrote texts old new
-wrote_after texts old mid new stay w = subst (λ (f : Files). Wrote texts f new) (fun_ext stay) w
+later_counts : (t : ℕ) (out : List ℕ) (chain : Chain) (files : Files) (before mid : FaultCounts) (now : Held) (end : TenantEnd) → ((a : ℕ) (n : List ℕ) → before a n ≤ mid a n)
+    → TenantLeaves t out chain (held files mid) now end → TenantLeaves t out chain (held files before) now end
+later_counts t out chain files before mid now (Done tally) later h = h
+later_counts t out chain files before mid now TooLong later h = h
+later_counts t out chain files before mid now (BadCapture fault) later h = h
+later_counts t out chain files before mid now ReadFault later h = h
+later_counts t out chain files before mid now WriteFault later (c, captured, stopped, others) = (
+  c,
+  captured,
+  stops_for (λ text. CountRose (writing_account t) text.name (held files mid) now) (λ text. CountRose (writing_account t) text.name (held files before) now) (λ text rose. omega (arith, later (writing_account t) text.name)) files now.files (texts_of out chain c) stopped,
+  others,
+)
+
+leaves_after : (t : ℕ) (out : List ℕ) (chain : Chain) (before mid now : Held) (end : TenantEnd) → AllStay before.files mid.files → Later before mid
+    → TenantLeaves t out chain mid now end → TenantLeaves t out chain before now end
+leaves_after t out chain before mid now end stay later h =
+    later_counts t out chain before.files before.faults mid.faults now end later (subst (λ (f : Files). TenantLeaves t out chain (held f mid.faults) now end) (fun_ext stay) h)
+
+cause_after : (t : ℕ) (out : List ℕ) (chain : Chain) (before mid now : Held) (end : TenantEnd) → Later before mid → TenantCause t out chain mid now end → TenantCause t out chain before now end
+cause_after t out chain before mid now (Done tally) later h = tt
+cause_after t out chain before mid now TooLong later h = tt
+cause_after t out chain before mid now (BadCapture fault) later h = tt
+cause_after t out chain before mid now ReadFault later h = omega (arith, later (reading_account t) chain.capture)
+cause_after t out chain before mid now WriteFault later h = some_then (writing_account t) (file_names out chain) before.faults mid.faults now.faults later h
 
 may_have : (chains out : List ℕ) (chain : Chain) (old new : Files) → Says chains out old chain → ChainMayWrite out chain old new → MayHaveWritten chains out old new
 may_have chains out chain old new says (inl stay) = inl stay
 may_have chains out chain old new says (inr w) = inr (chain, w.0, says, w.1, w.2)
 
-leaves_says : (chains out : List ℕ) (chain : Chain) (old new : Files) (o : Outcome) → Says chains out old chain → ChainLeaves out chain old new o → Leaves chains out old new o
-leaves_says chains out chain old new Usage says h = h
-leaves_says chains out chain old new ChainsRefused says h = absurd h
-leaves_says chains out chain old new StoreFault says h = may_have chains out chain old new says h
-leaves_says chains out chain old new NoMemory says h = may_have chains out chain old new says h
-leaves_says chains out chain old new (Reported lines) says h = (chain, h.0, says, h.1, h.2)
-
-pub leaves_then : (chains out : List ℕ) (chain : Chain) (old mid new : Files) (o : Outcome) → AllStay old mid → Says chains out old chain → ChainLeaves out chain mid new o → Leaves chains out old new o
-leaves_then chains out chain old mid new o stay says h = leaves_says chains out chain old new o says (subst (λ (f : Files). ChainLeaves out chain f new o) (fun_ext stay) h)
-
-some_rose_then : (account : ℕ) (names : List (List ℕ)) (before mid now : FaultCounts) → ((a : ℕ) (n : List ℕ) → before a n ≤ mid a n) → SomeRose account names mid now → SomeRose account names before now
-some_rose_then account [] before mid now later r = r
-some_rose_then account (n ∷ ns) before mid now later (inl r) = inl (omega (arith, later account n))
-some_rose_then account (n ∷ ns) before mid now later (inr r) = inr (some_rose_then account ns before mid now later r)
-
-pub fault_then : (tells : Type 0) (chains out : List ℕ) (chain : Chain) (old mid : Files) (before between now : FaultCounts) → ((a : ℕ) (n : List ℕ) → before a n ≤ between a n)
-    → (tells → AllStay old mid) → (tells → Says chains out old chain) → ChainFaultRose tells out chain mid between now → StoreFaultRose tells chains out old before now
-fault_then tells chains out chain old mid before between now later stay says (inl r) = inr (chain, says, inl (omega (arith, later 1 chain.capture)))
-fault_then tells chains out chain old mid before between now later stay says (inr (captured, r)) =
-    inr (chain, says, inr ((λ t. let c = captured t in (c.0, subst (λ (f : Files). Captured f chain c.0) (fun_ext (stay t)) c.1)), some_rose_then 2 (file_names out chain) before between now later r))
-
--- a fault of writing, after a read that left all
-pub write_fault : (tells : Type 0) (out : List ℕ) (chain : Chain) (old : Files) (before between now : FaultCounts) → ((a : ℕ) (n : List ℕ) → before a n ≤ between a n)
-    → (tells → (c : Contents) × Captured old chain c) → SomeRose 2 (file_names out chain) between now → ChainFaultRose tells out chain old before now
-write_fault tells out chain old before between now later captured r = inr (captured, some_rose_then 2 (file_names out chain) before between now later r)
+-- what the run of the chain did is what is true of the run
+pub ran_after : (tells : Type 0) (chains out : List ℕ) (chain : Chain) (before mid now : Held) (o : Outcome) → (tells → AllStay before.files mid.files) → Later before mid
+    → (tells → Says chains out before.files chain) → ChainRan tells out chain mid now o → IsTrueOf tells chains out before now o
+ran_after tells chains out chain before mid now Usage stay later says h = h
+ran_after tells chains out chain before mid now ChainsRefused stay later says h = absurd h
+ran_after tells chains out chain before mid now StoreFault stay later says h = absurd h
+ran_after tells chains out chain before mid now NoMemory stay later says h =
+    λ t. may_have chains out chain before.files now.files (says t) (subst (λ (f : Files). ChainMayWrite out chain f now.files) (fun_ext (stay t)) (h t))
+ran_after tells chains out chain before mid now (Reported lines) stay later says (end, is, leaves, cause) =
+    reported tells chains out chain before now lines end says is (λ t. leaves_after 0 out chain before mid now end (stay t) later (leaves t)) (cause_after 0 out chain before mid now end later cause)

@@ -36,21 +36,23 @@ writes_then done why later_why on t ts old mid new distinct holds others rest =
     let same : Untouched old mid ts = untouched_from t old mid ts others distinct.0 in
     record {
       all = λ d. (kept, rest.all d);
-      some = from rest.some kept same;
+      stops = λ n. inr (kept, stops_then why later_why on old mid new ts same (rest.stops n));
       others = λ n apart. rest.others n apart.1 ∙ others n apart.0;
     }
-  where
-    from : AllByRecursion (Holds new) ts ⊎ StopsWithin later_why mid new ts → Holds new t → Untouched old mid ts → AllByRecursion (Holds new) (t ∷ ts) ⊎ StopsWithin why old new (t ∷ ts)
-    from (inl all) kept same = inl (kept, all)
-    from (inr stops) kept same = inr (inr (kept, stops_then why later_why on old mid new ts same stops))
 
 -- the first one failed
 pub writes_stopped : (done : Type 0) (why : Text → Type 0) (t : Text) (ts : List Text) (old new : Files) → (done → ⊥) → why t → AreDistinct (t ∷ ts) → MayHold old new t → OthersStay t.name old new → WritesTexts done why (t ∷ ts) old new
 writes_stopped done why t ts old new failed reason distinct may others = record {
   all = λ d. absurd (failed d);
-  some = inr (inl (reason, may, untouched_from t old new ts others distinct.0));
+  stops = λ _. inl (reason, may, untouched_from t old new ts others distinct.0);
   others = λ n apart. others n apart.0;
 }
+
+-- writing stopped for another reason too
+pub stops_for : (P Q : Text → Type 0) → ((t : Text) → P t → Q t) → (old new : Files) (ts : List Text) → StopsWithin P old new ts → StopsWithin Q old new ts
+stops_for P Q f old new [] h = h
+stops_for P Q f old new (t ∷ ts) (inl stop) = inl (f t stop.0, stop.1, stop.2)
+stops_for P Q f old new (t ∷ ts) (inr goes) = inr (goes.0, stops_for P Q f old new ts goes.1)
 
 -- a count that rose later rose
 pub some_then : (account : ℕ) (ts : List (List ℕ)) (before mid now : FaultCounts) → ((a : ℕ) (n : List ℕ) → before a n ≤ mid a n) → SomeRose account ts mid now → SomeRose account ts before now

@@ -1,5 +1,6 @@
 -- What the values of the code say, in the words of the definitions.
 use Rattle.std.specs.Prelude.{[], ◌∷◌, map, string_bytes}
+use Rattle.brick_spec.specs.CaptureFault as spec_fault
 use Rattle.brick_spec.specs.Stage as spec
 use Rattle.brick_spec.specs.Chain as spec_chain
 use Rattle.brick_spec.specs.Tenant as spec_tenant
@@ -13,7 +14,9 @@ use Rattle.bricks_main.specs.declared.chain_file.Quoted.{Quoted}
 use Rattle.bricks_main.specs.declared.report.Output.{Output}
 use Rattle.bricks_main.specs.declared.report.Tally.{Tally}
 use Rattle.bricks_main.specs.declared.report.TenantEnd.{TenantEnd}
-use Rattle.bricks_main.specs.declared.report.TenantEnd.TheVariants.{Done, BadCapture}
+use Rattle.bricks_main.specs.declared.report.TenantEnd.TheVariants.{Done, TooLong, BadCapture, ReadFault, WriteFault}
+use Rattle.bricks_main.specs.declared.refusal.Refusal.{Refusal}
+use Rattle.bricks_main.specs.declared.refusal.Refusal.TheVariants.{ShortHeader, Magic, Version, Link, CutRecord, LongRecord}
 use Rattle.bricks_main.specs.declared.report.Line.{Line}
 use Rattle.bricks_main.specs.declared.report.Outcome.{Outcome}
 use Rattle.bricks_main.specs.declared.report.Outcome.TheVariants.{Usage, ChainsRefused, StoreFault, NoMemory, Reported}
@@ -40,9 +43,20 @@ output_view o = record { name = string_bytes o.name; items = o.items }
 abbrev pub tally_view : Tally → spec_tenant.Tally
 tally_view t = record { accepted = t.accepted; refused = t.refused; drops = t.drops; outputs = map output_view t.outputs.items }
 
+abbrev pub refusal_view : Refusal → spec_fault.CaptureFault
+refusal_view (ShortHeader len) = spec_fault.ShortHeader len
+refusal_view (Magic word) = spec_fault.Magic word
+refusal_view (Version major minor) = spec_fault.Version major minor
+refusal_view (Link word) = spec_fault.Link word
+refusal_view (CutRecord number at) = spec_fault.CutRecord number at
+refusal_view (LongRecord number len) = spec_fault.LongRecord number len
+
 abbrev pub end_view : TenantEnd → spec_report.TenantEnd
 end_view (Done t) = spec_report.Done (tally_view t)
-end_view BadCapture = spec_report.BadCapture
+end_view TooLong = spec_report.TooLong
+end_view (BadCapture refusal) = spec_report.BadCapture (refusal_view refusal)
+end_view ReadFault = spec_report.ReadFault
+end_view WriteFault = spec_report.WriteFault
 
 abbrev pub line_view : Line → spec_report.Line
 line_view l = record { name = string_bytes l.name; end = end_view l.end }

@@ -1,31 +1,27 @@
 //! A run without lanes: the chain file's tenant, from the files of a store to its files.
-ghost use Rattle.std.specs.Prelude.{◌≡◌, ◌≢◌, ℕ, List, Err, IfOk, IsTrue, map, string_bytes};
+ghost use Rattle.std.specs.Prelude.{◌≡◌, ◌≢◌, ◌+◌, ◌<◌, ℕ, IfOk, IsTrue, map, string_bytes};
+ghost use Rattle.brick_spec.specs.Cause as cause;
 ghost use Rattle.brick_spec.specs.Tenant.{texts_of, tally_of};
-ghost use Rattle.brick_spec.specs.Report.{Usage, StoreFault};
-ghost use Rattle.brick_spec.specs.Promise.{ChainFaultRose, StoreFaultRose, Leaves};
+ghost use Rattle.brick_spec.specs.Report.{Usage};
+ghost use Rattle.brick_spec.specs.Promise.{held, IsTrueOf};
 ghost use Rattle.bricks_main.specs.View.{chain_view, tally_view, end_view, outcome_view};
 ghost use Rattle.bricks_main.specs.WholeFiles.{text_view};
-ghost use Rattle.bricks_main.specs.Run.{made_tally, written_texts, one_line, TenantRan, ChainLeaves};
+ghost use Rattle.bricks_main.specs.Run.{made_tally, written_texts, one_line, TenantRan, ChainRan};
 ghost use Rattle.bricks_main.specs.ProgressView.{progress_view};
 
 use crate::chain::{Chain, output_file, refused_file};
 use crate::chain_file::read_chain_file;
+use crate::refusal::refusal_of;
 use crate::report::{Line, Outcome, Output, Tally, TenantEnd};
 use crate::tenant::{Progress, take_records};
 use crate::whole_files::{ReadFault, Text, read_whole, write_texts};
 use brick_base::NoMemory;
-use pcap_io::{Capture, CaptureFault};
+use pcap_io::Capture;
 use std::alloc::Global;
 use store_io::{IoFault, Store};
 
 /// The account that reads the chain file.
 const CHAINS_ACCOUNT: u32 = 0;
-
-/// The account that reads for tenant 0.
-const READ_ACCOUNT: u32 = 1;
-
-/// The account that writes for tenant 0.
-const WRITE_ACCOUNT: u32 = 2;
 
 /// The most bytes of a chain file.
 const LONGEST_CHAIN_FILE: usize = 1048576;
@@ -33,13 +29,20 @@ const LONGEST_CHAIN_FILE: usize = 1048576;
 /// The most bytes of a capture.
 const LONGEST_CAPTURE: usize = 33554432;
 
-/// Why a tenant's run stopped before its line was known.
-#[derive(Clone, Copy, Debug, PartialEq, Eq)]
-pub enum Stop {
-    /// A call of the store failed.
-    StoreFault,
-    /// Memory ran out.
-    NoMemory,
+/// The account that reads for a tenant.
+fn reading_account(tenant: u32) -> u32
+    requires { tenant < 16 }
+    ensures { result ≡ cause.reading_account tenant }
+{
+    1 + 2 * tenant
+}
+
+/// The account that writes for a tenant.
+fn writing_account(tenant: u32) -> u32
+    requires { tenant < 16 }
+    ensures { result ≡ cause.writing_account tenant }
+{
+    2 + 2 * tenant
 }
 
 /// What is counted of the tenant.
@@ -92,40 +95,39 @@ fn make_texts(
     Ok((texts, tally))
 }
 
-/// Reads the tenant's capture, and writes its files.
+/// Reads the capture of a tenant, and writes its files. After a fault of writing the rest of its files are not touched.
 fn run_tenant<S: Store>(
     alloc: Global,
     store: &mut S,
+    tenant: u32,
     chain: &Chain,
     out: &str,
-) -> Result<TenantEnd, Stop>
-    ensures leaves { IsTrue S.tells → TenantRan out.now (chain_view chain.now) (S.file store.old) (S.file store.new) result }
-    ensures fault { result ≡ Err Stop.StoreFault → ChainFaultRose (IsTrue S.tells) out.now (chain_view chain.now) (S.file store.old) (S.faults store.old) (S.faults store.new) }
+) -> Result<TenantEnd, NoMemory>
+    requires { tenant < 16 }
+    ensures { TenantRan (IsTrue S.tells) tenant out.now (chain_view chain.now)
+        (held (S.file store.old) (S.faults store.old)) (held (S.file store.new) (S.faults store.new)) result }
 {
     let bytes = match read_whole(
         alloc,
         store,
-        READ_ACCOUNT,
+        reading_account(tenant),
         chain.capture.as_str(),
         LONGEST_CAPTURE,
     ) {
         Ok(bytes) => bytes,
-        Err(ReadFault::TooLong) => return Ok(TenantEnd::BadCapture),
-        Err(ReadFault::Failed) => return Err(Stop::StoreFault),
-        Err(ReadFault::NoMemory) => return Err(Stop::NoMemory),
+        Err(ReadFault::TooLong) => return Ok(TenantEnd::TooLong),
+        Err(ReadFault::Failed) => return Ok(TenantEnd::ReadFault),
+        Err(ReadFault::NoMemory) => return Err(NoMemory),
     };
     let capture = match Capture::read(alloc, bytes) {
         Ok(capture) => capture,
-        Err(CaptureFault::FirstForm) => return Ok(TenantEnd::BadCapture),
-        Err(CaptureFault::NoMemory) => return Err(Stop::NoMemory),
+        Err(fault) => return Ok(TenantEnd::BadCapture(refusal_of(fault)?)),
     };
-    let Ok((texts, tally)) = make_texts(alloc, chain, out, &capture) else {
-        return Err(Stop::NoMemory);
-    };
-    match write_texts(store, WRITE_ACCOUNT, &texts) {
+    let (texts, tally) = make_texts(alloc, chain, out, &capture)?;
+    match write_texts(store, writing_account(tenant), &texts) {
         Ok(()) => Ok(TenantEnd::Done(tally)),
-        Err(IoFault::Failed) => Err(Stop::StoreFault),
-        Err(IoFault::NoMemory) => Err(Stop::NoMemory),
+        Err(IoFault::Failed) => Ok(TenantEnd::WriteFault),
+        Err(IoFault::NoMemory) => Err(NoMemory),
     }
 }
 
@@ -141,27 +143,24 @@ fn report_one(alloc: Global, chain: &Chain, end: TenantEnd) -> Result<Outcome, N
     Ok(Outcome::Reported(lines))
 }
 
-/// Runs an accepted chain.
+/// Runs an accepted chain, whose tenant is tenant 0.
 fn run_chain<S: Store>(alloc: Global, store: &mut S, chain: &Chain, out: &str) -> Outcome
-    ensures leaves { IsTrue S.tells → ChainLeaves out.now (chain_view chain.now) (S.file store.old) (S.file store.new) (outcome_view result) }
-    ensures known { outcome_view result ≢ Usage }
-    ensures fault { outcome_view result ≡ StoreFault → ChainFaultRose (IsTrue S.tells) out.now (chain_view chain.now) (S.file store.old) (S.faults store.old) (S.faults store.new) }
+    ensures { ChainRan (IsTrue S.tells) out.now (chain_view chain.now)
+        (held (S.file store.old) (S.faults store.old)) (held (S.file store.new) (S.faults store.new)) (outcome_view result) }
 {
-    match run_tenant(alloc, store, chain, out) {
-        Ok(end) => match report_one(alloc, chain, end) {
-            Ok(outcome) => outcome,
-            Err(NoMemory) => Outcome::NoMemory,
-        },
-        Err(Stop::StoreFault) => Outcome::StoreFault,
-        Err(Stop::NoMemory) => Outcome::NoMemory,
+    let Ok(end) = run_tenant(alloc, store, 0, chain, out) else {
+        return Outcome::NoMemory;
+    };
+    match report_one(alloc, chain, end) {
+        Ok(outcome) => outcome,
+        Err(NoMemory) => Outcome::NoMemory,
     }
 }
 
 /// Reads the chain file, and runs its chain.
 pub fn run_files<S: Store>(alloc: Global, store: &mut S, chains: &str, out: &str) -> Outcome
-    ensures leaves { IsTrue S.tells → Leaves chains.now out.now (S.file store.old) (S.file store.new) (outcome_view result) }
-    ensures known { outcome_view result ≢ Usage }
-    ensures fault { outcome_view result ≡ StoreFault → StoreFaultRose (IsTrue S.tells) chains.now out.now (S.file store.old) (S.faults store.old) (S.faults store.new) }
+    ensures { IsTrueOf (IsTrue S.tells) chains.now out.now
+        (held (S.file store.old) (S.faults store.old)) (held (S.file store.new) (S.faults store.new)) (outcome_view result) }
 {
     let bytes = match read_whole(alloc, store, CHAINS_ACCOUNT, chains, LONGEST_CHAIN_FILE) {
         Ok(bytes) => bytes,

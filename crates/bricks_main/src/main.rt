@@ -10,6 +10,7 @@ pub mod command_line;
 pub mod frames;
 pub mod inline;
 pub mod plain;
+pub mod refusal;
 pub mod report;
 pub mod run;
 pub mod tenant;

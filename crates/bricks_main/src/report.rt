@@ -1,9 +1,10 @@
 //! How a run ends, and the text that tells it.
-ghost use Rattle.std.specs.Prelude.{◌≡◌, ◌++◌, ℕ, List, IfOk, OnOk, flat_map, map, decimal, string_bytes, length};
+ghost use Rattle.std.specs.Prelude.{◌≡◌, ◌++◌, ℕ, List, IfOk, OnOk, flat_map, map, codes, decimal, string_bytes, length};
 ghost use Rattle.std.specs.List.{list_all};
 ghost use Rattle.brick_spec.specs.Report as spec;
-ghost use Rattle.bricks_main.specs.View.{tally_view, output_view, end_view, line_view, outcome_view};
+ghost use Rattle.bricks_main.specs.View.{refusal_view, tally_view, output_view, end_view, line_view, outcome_view};
 
+use crate::refusal::{Refusal, refusal_text};
 use brick_base::NoMemory;
 use std::alloc::Global;
 
@@ -31,8 +32,14 @@ pub struct Tally {
 pub enum TenantEnd {
     /// Its files are written.
     Done(Tally),
-    /// Its capture was read and is not of the first form.
-    BadCapture,
+    /// Its capture has more bytes than are read.
+    TooLong,
+    /// Its capture was read to its end, and is not whole.
+    BadCapture(Refusal),
+    /// Reading its capture failed.
+    ReadFault,
+    /// Writing one of its files failed.
+    WriteFault,
 }
 
 /// What is told of a tenant.
@@ -49,7 +56,7 @@ pub enum Outcome {
     Usage,
     /// The chain file was read and is not accepted.
     ChainsRefused,
-    /// A call of the store failed.
+    /// Reading the chain file failed.
     StoreFault,
     /// Memory ran out.
     NoMemory,
@@ -128,6 +135,24 @@ fn push_outputs(alloc: Global, text: &mut String, outputs: &[Output]) -> Result<
     Ok(())
 }
 
+/// Puts a word behind the text.
+fn push_word(text: &mut String, word: &str) -> Result<(), NoMemory>
+    ensures { OnOk result (string_bytes text.new ≡ string_bytes text.old ++ word.now) }
+{
+    text.push_str(word)?;
+    Ok(())
+}
+
+/// Puts the fault of a capture behind the text.
+fn push_bad_capture(alloc: Global, text: &mut String, refusal: Refusal) -> Result<(), NoMemory>
+    ensures { OnOk result (string_bytes text.new ≡ string_bytes text.old ++ (codes " bad-capture" ++ spec.fault_text (refusal_view refusal))) }
+{
+    let fault = refusal_text(alloc, refusal)?;
+    let words = format!(in alloc; " bad-capture{fault}")?;
+    text.push_str(words.as_str())?;
+    Ok(())
+}
+
 /// Puts the end of a tenant's line behind the text.
 fn push_end(alloc: Global, text: &mut String, end: &TenantEnd) -> Result<(), NoMemory>
     ensures { OnOk result (string_bytes text.new ≡ string_bytes text.old ++ spec.end_text (end_view end.now)) }
@@ -140,10 +165,10 @@ fn push_end(alloc: Global, text: &mut String, end: &TenantEnd) -> Result<(), NoM
             text.push_str(drops.as_str())?;
             push_outputs(alloc, text, &tally.outputs)
         }
-        TenantEnd::BadCapture => {
-            text.push_str(" bad-capture 0 FirstForm")?;
-            Ok(())
-        }
+        TenantEnd::TooLong => push_word(text, " too-long"),
+        TenantEnd::BadCapture(refusal) => push_bad_capture(alloc, text, *refusal),
+        TenantEnd::ReadFault => push_word(text, " read-fault"),
+        TenantEnd::WriteFault => push_word(text, " write-fault"),
     }
 }
 

@@ -4,7 +4,7 @@ use Rattle.std.specs.Prelude.{flat_map}
 use Rattle.std.specs.List.{AllByRecursion}
 use Rattle.std.proofs.lemmas.List.{append-nil, take-take, length-take, take_at, drop_at}
 use Rattle.brick_spec.specs.Bytes.{Order, Little, two_bytes, four_bytes}
-use Rattle.brick_spec.specs.Capture.{Entry, Fits, record_text, magic, IsHeader, IsCapture, Contents, IsFirstCapture, header_text, written_text}
+use Rattle.brick_spec.specs.Capture.{Entry, Fits, record_text, magic, IsHeader, IsCapture, Contents, IsReadable, header_text, written_text}
 use Rattle.pcap_io.specs.Reading.{front_entry, entries_at}
 use Rattle.pcap_io.proofs.Records.{texts_again, length-record_text}
 use Rattle.pcap_io.proofs.Headers.{magic_unique}
@@ -29,24 +29,9 @@ capture_unique o p n m es fs bytes a b =
     none ([], e, t) = sym (append-nil es) ∙ sym e
     none (d ∷ more, e, t) = absurd (omega (arith, ap length t ∙ refl, length-record_text o d (flat_map (record_text o) more)))
 
-little_magic : (0xd4 ∷ 0xc3 ∷ 0xb2 ∷ 0xa1 ∷ []) ≡ four_bytes Little (magic false)
-unfolding four_bytes
-little_magic = refl
-
--- a capture of the first form is little-endian, with microseconds
-pub first_is_little : (bytes : List ℕ) (c : Contents) → IsFirstCapture bytes c → (c.nano ≡ false) × IsCapture Little false c.entries bytes
-first_is_little bytes c f =
-    let o : Order = f.whole.0 in
-    let same : (o ≡ Little) × (c.nano ≡ false) = magic_unique o Little c.nano false bytes (header_begins o c.nano bytes f.whole.1.header) (f.begins ∙ little_magic) in
-    (same.1, subst (λ (m : Bool). IsCapture Little m c.entries bytes) same.1 (subst (λ (p : Order). IsCapture p c.nano c.entries bytes) same.0 f.whole.1))
-
--- a little-endian capture with microseconds is of the first form
-pub little_is_first : (bytes : List ℕ) (es : List Entry) → length bytes ≤ 33554432 → IsCapture Little false es bytes → IsFirstCapture bytes (record { nano = false; entries = es })
-little_is_first bytes es short h = record { short = short; begins = header_begins Little false bytes h.header ∙ sym little_magic; whole = (Little, h) }
-
--- what a capture of the first form says is unique
-pub first_unique : (bytes : List ℕ) (c d : Contents) → IsFirstCapture bytes c → IsFirstCapture bytes d → c ≡ d
-first_unique bytes c d f g =
+-- what a capture that is read says is unique
+pub readable_unique : (bytes : List ℕ) (c d : Contents) → IsReadable bytes c → IsReadable bytes d → c ≡ d
+readable_unique bytes c d f g =
     let u = capture_unique f.whole.0 g.whole.0 c.nano d.nano c.entries d.entries bytes f.whole.1 g.whole.1 in
     λ i. record { nano = u.1 i; entries = u.2 i }
 

@@ -8,7 +8,7 @@ use Rattle.brick_spec.specs.Bytes.{Order, Little, Big, two_bytes, four_bytes, nu
 use Rattle.brick_spec.specs.Capture.{Entry, Fits, record_text, magic, IsHeader, IsCapture, Contents, IsWhole}
 use Rattle.brick_spec.specs.CaptureFault.{CaptureFault, ShortHeader, Magic, Version, Link, CutRecord, LongRecord, HasMagic, Begins, captured_length, IsCut, Stands}
 use Rattle.brick_spec.proofs.Numbers.{after_four_fits}
-use Rattle.pcap_io.specs.Reading.{number_of_two, body, front_entry, IsRecord, IsLong, IsStuck}
+use Rattle.pcap_io.specs.Reading.{number_of_two, HasVersion, body, front_entry, IsRecord, IsLong, IsStuck}
 use Rattle.pcap_io.proofs.Records.{record_takes, record_fits, length-record_text, stuck_again, no_capture}
 use Rattle.pcap_io.proofs.Places.{IsBytes-drop}
 use Rattle.pcap_io.proofs.Headers.{magic_unique, magic_small, two_small, first_four, number_at_first, version_bytes, version_numbers}
@@ -43,12 +43,56 @@ header_of o nano bytes fits f = record {
   link = link_place bytes ∙ first_four o (drop 20 bytes) (IsBytes-drop 20 bytes fits) (omega (arith, length-drop 20 bytes, f.has.size)) ∙ ap (four_bytes o) f.link;
 }
 
+-- bytes whose first four read so have the magic number
+pub has_magic : (o : Order) (nano : Bool) (bytes : List ℕ) → IsBytes bytes → 24 ≤ length bytes → number_of_four o bytes ≡ magic nano → HasMagic o nano bytes
+has_magic o nano bytes fits long is = record { size = long; begins = first_four o bytes fits (omega arith) ∙ ap (four_bytes o) is }
+
+pub magic_reads : (o : Order) (nano : Bool) (bytes : List ℕ) → HasMagic o nano bytes → number_of_four o bytes ≡ magic nano
+magic_reads o nano bytes has = number_at_first o (magic nano) bytes (magic_small nano) has.begins
+
+-- a number that is neither is no magic number
+pub no_magic : (o : Order) (bytes : List ℕ) → ¬ (number_of_four o bytes ≡ magic false) → ¬ (number_of_four o bytes ≡ magic true) → (nano : Bool) → ¬ (HasMagic o nano bytes)
+no_magic o bytes micro nanos true has = nanos (magic_reads o true bytes has)
+no_magic o bytes micro nanos false has = micro (magic_reads o false bytes has)
+
+-- none in either byte order is none
+pub no_form : (bytes : List ℕ) → ((nano : Bool) → ¬ (HasMagic Little nano bytes)) → ((nano : Bool) → ¬ (HasMagic Big nano bytes)) → (o : Order) (nano : Bool) → ¬ (HasMagic o nano bytes)
+no_form bytes little big Little = little
+no_form bytes little big Big = big
+
+-- the version that is read
+version_is : (o : Order) (bytes : List ℕ) (major minor : ℕ) → IsBytes bytes → 24 ≤ length bytes → major ≡ number_of_two o (drop 4 bytes) → minor ≡ number_of_two o (drop 6 bytes)
+    → take 4 (drop 4 bytes) ≡ two_bytes o major ++ two_bytes o minor
+version_is o bytes major minor fits long a b =
+    version_bytes o bytes fits (omega arith) ∙ ap (λ (n : ℕ). two_bytes o n ++ two_bytes o (number_of_two o (drop 6 bytes))) (sym a) ∙ ap (λ (n : ℕ). two_bytes o major ++ two_bytes o n) (sym b)
+
+-- one that is not 2.4 is the fault
+pub version_stands : (o : Order) (nano : Bool) (bytes : List ℕ) (major minor : ℕ) → IsBytes bytes → HasMagic o nano bytes → major ≡ number_of_two o (drop 4 bytes) → minor ≡ number_of_two o (drop 6 bytes)
+    → ¬ ((major ≡ 2) × (minor ≡ 4)) → Stands bytes (Version major minor)
+version_stands o nano bytes major minor fits has a b other = (
+  o,
+  nano,
+  has,
+  omega (arith, a, two_small o (drop 4 bytes) (IsBytes-drop 4 bytes fits)),
+  omega (arith, b, two_small o (drop 6 bytes) (IsBytes-drop 6 bytes fits)),
+  version_is o bytes major minor fits has.size a b,
+  other,
+)
+
+pub version_there : (o : Order) (bytes : List ℕ) (major minor : ℕ) → IsBytes bytes → 24 ≤ length bytes → major ≡ number_of_two o (drop 4 bytes) → minor ≡ number_of_two o (drop 6 bytes)
+    → major ≡ 2 → minor ≡ 4 → HasVersion o bytes
+version_there o bytes major minor fits long a b two four = version_is o bytes 2 4 fits long (sym two ∙ a) (sym four ∙ b)
+
+-- behind version 2.4 a link type of 1 makes a file header
+pub header_stands : (o : Order) (nano : Bool) (bytes : List ℕ) → IsBytes bytes → HasMagic o nano bytes → HasVersion o bytes → number_of_four o (drop 20 bytes) ≡ 1 → IsHeader o nano (take 24 bytes)
+header_stands o nano bytes fits has version link = header_of o nano bytes fits (record { has = has; version = version; link = link })
+
 has_or_not : (o : Order) (nano : Bool) (bytes : List ℕ) → IsBytes bytes → 24 ≤ length bytes → HasMagic o nano bytes ⊎ (HasMagic o nano bytes → ⊥)
 has_or_not o nano bytes fits long = by (cases_eq (number_of_four o bytes) (magic nano))
   where
     by : (number_of_four o bytes ≡ magic nano) ⊎ (number_of_four o bytes ≡ magic nano → ⊥) → HasMagic o nano bytes ⊎ (HasMagic o nano bytes → ⊥)
-    by (inl fact) = inl (record { size = long; begins = first_four o bytes fits (omega arith) ∙ ap (four_bytes o) fact })
-    by (inr other) = inr (λ h. other (number_at_first o (magic nano) bytes (magic_small nano) h.begins))
+    by (inl fact) = inl (has_magic o nano bytes fits long fact)
+    by (inr other) = inr (λ h. other (magic_reads o nano bytes h))
 
 some_magic : (bytes : List ℕ) → IsBytes bytes → 24 ≤ length bytes → ((o : Order) × (nano : Bool) × HasMagic o nano bytes) ⊎ ((o : Order) (nano : Bool) → ¬ (HasMagic o nano bytes))
 some_magic bytes fits long = first (has_or_not Little true bytes fits long)
@@ -77,28 +121,22 @@ some_magic bytes fits long = first (has_or_not Little true bytes fits long)
 
 -- after the magic number, the version and the link type are right, or the first that is not is the fault
 header_or_fault : (o : Order) (nano : Bool) (bytes : List ℕ) → IsBytes bytes → HasMagic o nano bytes → IsHeader o nano (take 24 bytes) ⊎ ((f : CaptureFault) × Stands bytes f)
-header_or_fault o nano bytes fits has = major (cases_eq (number_of_two o (drop 4 bytes)) 2)
+header_or_fault o nano bytes fits has = by_major (cases_eq (number_of_two o (drop 4 bytes)) 2)
   where
-    version_is : take 4 (drop 4 bytes) ≡ two_bytes o (number_of_two o (drop 4 bytes)) ++ two_bytes o (number_of_two o (drop 6 bytes))
-    version_is = version_bytes o bytes fits (omega (arith, has.size))
-
     wrong : ¬ ((number_of_two o (drop 4 bytes) ≡ 2) × (number_of_two o (drop 6 bytes) ≡ 4)) → IsHeader o nano (take 24 bytes) ⊎ ((f : CaptureFault) × Stands bytes f)
-    wrong other = inr (Version (number_of_two o (drop 4 bytes)) (number_of_two o (drop 6 bytes)), (o, nano, has, two_small o (drop 4 bytes) (IsBytes-drop 4 bytes fits), two_small o (drop 6 bytes) (IsBytes-drop 6 bytes fits), version_is, other))
+    wrong other = inr (Version (number_of_two o (drop 4 bytes)) (number_of_two o (drop 6 bytes)), version_stands o nano bytes _ _ fits has refl refl other)
 
-    right : number_of_two o (drop 4 bytes) ≡ 2 → number_of_two o (drop 6 bytes) ≡ 4 → take 4 (drop 4 bytes) ≡ two_bytes o 2 ++ two_bytes o 4
-    right a b = version_is ∙ ap (λ (n : ℕ). two_bytes o n ++ two_bytes o (number_of_two o (drop 6 bytes))) a ∙ ap (λ (n : ℕ). two_bytes o 2 ++ two_bytes o n) b
+    by_link : HasVersion o bytes → (number_of_four o (drop 20 bytes) ≡ 1) ⊎ (number_of_four o (drop 20 bytes) ≡ 1 → ⊥) → IsHeader o nano (take 24 bytes) ⊎ ((f : CaptureFault) × Stands bytes f)
+    by_link v (inl fact) = inl (header_stands o nano bytes fits has v fact)
+    by_link v (inr other) = inr (Link (number_of_four o (drop 20 bytes)), (o, nano, has, v, refl, other))
 
-    link : take 4 (drop 4 bytes) ≡ two_bytes o 2 ++ two_bytes o 4 → (number_of_four o (drop 20 bytes) ≡ 1) ⊎ (number_of_four o (drop 20 bytes) ≡ 1 → ⊥) → IsHeader o nano (take 24 bytes) ⊎ ((f : CaptureFault) × Stands bytes f)
-    link v (inl fact) = inl (header_of o nano bytes fits (record { has = has; version = v; link = fact }))
-    link v (inr other) = inr (Link (number_of_four o (drop 20 bytes)), (o, nano, has, v, refl, other))
+    by_minor : number_of_two o (drop 4 bytes) ≡ 2 → (number_of_two o (drop 6 bytes) ≡ 4) ⊎ (number_of_two o (drop 6 bytes) ≡ 4 → ⊥) → IsHeader o nano (take 24 bytes) ⊎ ((f : CaptureFault) × Stands bytes f)
+    by_minor a (inl b) = by_link (version_there o bytes _ _ fits has.size refl refl a b) (cases_eq (number_of_four o (drop 20 bytes)) 1)
+    by_minor a (inr other) = wrong (λ p. other p.1)
 
-    minor : number_of_two o (drop 4 bytes) ≡ 2 → (number_of_two o (drop 6 bytes) ≡ 4) ⊎ (number_of_two o (drop 6 bytes) ≡ 4 → ⊥) → IsHeader o nano (take 24 bytes) ⊎ ((f : CaptureFault) × Stands bytes f)
-    minor a (inl b) = link (right a b) (cases_eq (number_of_four o (drop 20 bytes)) 1)
-    minor a (inr other) = wrong (λ p. other p.1)
-
-    major : (number_of_two o (drop 4 bytes) ≡ 2) ⊎ (number_of_two o (drop 4 bytes) ≡ 2 → ⊥) → IsHeader o nano (take 24 bytes) ⊎ ((f : CaptureFault) × Stands bytes f)
-    major (inl a) = minor a (cases_eq (number_of_two o (drop 6 bytes)) 4)
-    major (inr other) = wrong (λ p. other p.0)
+    by_major : (number_of_two o (drop 4 bytes) ≡ 2) ⊎ (number_of_two o (drop 4 bytes) ≡ 2 → ⊥) → IsHeader o nano (take 24 bytes) ⊎ ((f : CaptureFault) × Stands bytes f)
+    by_major (inl a) = by_minor a (cases_eq (number_of_two o (drop 6 bytes)) 4)
+    by_major (inr other) = wrong (λ p. other p.0)
 
 -- THE RECORDS
 

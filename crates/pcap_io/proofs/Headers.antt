@@ -1,12 +1,12 @@
 -- A file header by its numbers.
 use Rattle.std.proofs.Common.{◌≡◌, ℕ, zero, suc, ◌^◌, ◌<◌, ◌≤◌, Bool, true, false, List, [], ◌∷◌, ◌++◌, length, take, drop, get_or, refl, sym, ◌∙◌, ap, append_assoc, length-append, length-drop, arith}
-use Rattle.std.proofs.lemmas.List.{take-append-drop, take_at, drop_at, drop-drop, append-nil}
+use Rattle.std.proofs.lemmas.List.{take-append-drop, take_at, drop_at, drop-drop}
 use Rattle.std.proofs.lemmas.Nat.{le_bytes_2, be_bytes_2}
 use Rattle.byteorder.specs.Numbers.{big_number-reads_back, little_number-reads_back}
 use Rattle.brick_spec.specs.Bytes.{Order, Little, Big, two_bytes, four_bytes, number_of_four, after_four, IsBytes}
-use Rattle.brick_spec.specs.Capture.{magic, IsHeader}
-use Rattle.brick_spec.proofs.Numbers.{length-four_bytes, number-four_bytes, takes_four, length-after_four}
-use Rattle.pcap_io.specs.Reading.{number_of_two, HeaderReads}
+use Rattle.brick_spec.specs.Capture.{magic}
+use Rattle.brick_spec.proofs.Numbers.{length-four_bytes, number-four_bytes, takes_four}
+use Rattle.pcap_io.specs.Reading.{number_of_two}
 use Rattle.pcap_io.proofs.Places.{IsBytes-drop}
 
 length-two_bytes : (o : Order) (n : ℕ) → length (two_bytes o n) ≡ 2
@@ -71,38 +71,6 @@ version_numbers o major minor bytes small1 small2 is =
       ap (number_of_two o) a ∙ number-two_bytes o major _ small1,
       ap (number_of_two o) b ∙ number-two_bytes o minor _ small2,
     )
-
-no_more : (l : List ℕ) → length l ≡ 0 → l ≡ []
-no_more [] e = refl
-no_more (x ∷ l) e = absurd (omega arith)
-
--- four bytes with nothing behind them, by their number
-pub last_four : (o : Order) (bytes : List ℕ) → IsBytes bytes → length bytes ≡ 4 → bytes ≡ four_bytes o (number_of_four o bytes)
-last_four o bytes fits size =
-    takes_four o bytes (omega arith) fits ∙ ap (λ (l : List ℕ). four_bytes o (number_of_four o bytes) ++ l) (no_more (after_four bytes) (omega (arith, length-after_four bytes (omega arith)))) ∙ append-nil _
-
-pub number_at_last : (o : Order) (n : ℕ) (bytes : List ℕ) → n < 2 ^ 32 → bytes ≡ four_bytes o n → number_of_four o bytes ≡ n
-number_at_last o n bytes small is = ap (number_of_four o) (is ∙ sym (append-nil _)) ∙ number-four_bytes o n [] small
-
--- a header reads so
-pub reads_header : (o : Order) (nano : Bool) (bytes : List ℕ) → IsHeader o nano bytes → HeaderReads o nano bytes
-reads_header o nano bytes h =
-    let v = version_numbers o 2 4 bytes (omega arith) (omega arith) h.version in
-    record {
-      magic = number_at_first o (magic nano) bytes (magic_small nano) h.begins;
-      major = v.0;
-      minor = v.1;
-      link = number_at_last o 1 (drop 20 bytes) (omega arith) h.link;
-    }
-
--- and what reads so is one
-pub header_reads : (o : Order) (nano : Bool) (bytes : List ℕ) → IsBytes bytes → length bytes ≡ 24 → HeaderReads o nano bytes → IsHeader o nano bytes
-header_reads o nano bytes fits size r = record {
-  size = size;
-  begins = first_four o bytes fits (omega arith) ∙ ap (four_bytes o) r.magic;
-  version = version_bytes o bytes fits (omega arith) ∙ ap (λ (n : ℕ). two_bytes o n ++ two_bytes o (number_of_two o (drop 6 bytes))) r.major ∙ ap (λ (n : ℕ). two_bytes o 2 ++ two_bytes o n) r.minor;
-  link = last_four o (drop 20 bytes) (IsBytes-drop 20 bytes fits) (omega (arith, length-drop 20 bytes)) ∙ ap (four_bytes o) r.link;
-}
 
 little_big : (n m : Bool) → four_bytes Little (magic n) ≡ four_bytes Big (magic m) → ⊥
 unfolding four_bytes

@@ -3,3 +3,4 @@ pub mod Places
 pub mod Headers
 pub mod Captures
 pub mod Faults
+pub mod Refusals

@@ -1,8 +1,9 @@
 -- How the reader takes bytes apart: a record from the front, and the entries at given places.
-use Rattle.std.specs.Prelude.{◌≡◌, ◌⊎◌, ℕ, ◌+◌, ◌<◌, ◌≤◌, Bool, List, length, map, take, drop, All}
+use Rattle.std.specs.Prelude.{◌≡◌, ◌⊎◌, ℕ, ◌+◌, ◌<◌, ◌≤◌, List, ◌++◌, length, map, take, drop, All, flat_map}
+use Rattle.std.specs.List.{AllByRecursion}
 use Rattle.byteorder.specs.Endian.{little_number, big_number}
-use Rattle.brick_spec.specs.Bytes.{Order, Little, Big, number_of_four, after_four}
-use Rattle.brick_spec.specs.Capture.{Entry, longest_frame, longest_capture, magic}
+use Rattle.brick_spec.specs.Bytes.{Order, Little, Big, two_bytes, number_of_four, after_four}
+use Rattle.brick_spec.specs.Capture.{Entry, Fits, record_text, longest_frame, longest_capture}
 use Rattle.brick_spec.specs.CaptureFault.{captured_length, IsCut}
 
 -- the number in the first two bytes
@@ -10,12 +11,9 @@ unfoldable pub number_of_two : Order → List ℕ → ℕ
 number_of_two Little bytes = little_number 2 bytes
 number_of_two Big bytes = big_number 2 bytes
 
--- the numbers of a file header that are checked
-pub record HeaderReads (o : Order) (nano : Bool) (bytes : List ℕ) : Type 0 where
-  pub magic : number_of_four o (drop 0 bytes) ≡ magic nano
-  pub major : number_of_two o (drop 4 bytes) ≡ 2
-  pub minor : number_of_two o (drop 6 bytes) ≡ 4
-  pub link : number_of_four o (drop 20 bytes) ≡ 1
+-- a file header's version is 2.4
+abbrev pub HasVersion : Order → List ℕ → Type 0
+HasVersion o bytes = take 4 (drop 4 bytes) ≡ two_bytes o 2 ++ two_bytes o 4
 
 -- what stands behind a record's four numbers
 abbrev pub body : List ℕ → List ℕ
@@ -43,6 +41,11 @@ IsLong o bytes = (16 ≤ length bytes) × (longest_frame < captured_length o byt
 -- bytes are left, and no whole record is at the front
 abbrev pub IsStuck : Order → List ℕ → Type 0
 IsStuck o bytes = IsCut o bytes ⊎ IsLong o bytes
+
+-- the records are those of some entries, and then there is a rest
+pub record IsAfter (o : Order) (first : List Entry) (rest records : List ℕ) : Type 0 where
+  pub text : records ≡ flat_map (record_text o) first ++ rest
+  pub fit : AllByRecursion Fits first
 
 -- the entries at these places
 abbrev pub entries_at : Order → List ℕ → List ℕ → List Entry

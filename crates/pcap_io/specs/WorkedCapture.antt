@@ -1,6 +1,6 @@
 -- A worked capture: big-endian with nanoseconds, of one frame.
 use Rattle.std.specs.Prelude.{true, ℕ, List, [], ◌∷◌, ◌++◌}
-use Rattle.brick_spec.specs.Capture.{Entry, Contents, IsWhole}
+use Rattle.brick_spec.specs.Capture.{Contents, IsWhole}
 
 -- UDP from 10.0.0.1:1000 to 10.1.2.3:53 with the payload `ping`
 abbrev pub frame : List ℕ

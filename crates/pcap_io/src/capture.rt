@@ -1,34 +1,53 @@
-ghost use Rattle.std.specs.Prelude.{◌≡◌, ◌+◌, ◌<◌, ◌≤◌, List, Some, length, vec_len, slice_get, IfOk, IsErrOf, flat_map};
+ghost use Rattle.std.specs.Prelude.{◌≡◌, ◌+◌, ◌<◌, ◌≤◌, Some, length, vec_len, slice_get, IfOk, IfErr, flat_map};
 ghost use Rattle.std.specs.List.{AllByRecursion};
-ghost use Rattle.brick_spec.specs.Capture as spec;
-ghost use Rattle.brick_spec.specs.Capture.{Fits, Contents, IsFirstCapture, record_text};
+ghost use Rattle.brick_spec.specs.Capture.{Fits, IsWhole, record_text};
 ghost use Rattle.pcap_io.specs.Reading.{entries_at, ArePlaces};
-ghost use Rattle.pcap_io.specs.View.{entry_view, order_view};
+ghost use Rattle.pcap_io.specs.View.{entry_view, order_view, record_fault_of, StandsIn, StandsInRecords};
 
-use crate::header::{HEADER, is_header};
+use crate::header::{Form, HEADER, read_header};
 use crate::number::Order;
-use crate::record::{record_at_front, record_size};
+use crate::record::{Stuck, record_at_front, record_size};
 use crate::{CaptureFault, Entry};
 use std::alloc::Global;
 use std::marker::Model;
 
-/// The places of the records, where there are whole records and nothing more.
+/// The fault of a record of a number, counted from 0, whose first byte has this place behind the file header.
+fn record_fault(number: usize, at: usize, stuck: Stuck) -> CaptureFault
+    requires number { number ≤ 33554432 }
+    requires at { at ≤ 33554432 }
+    ensures { result ≡ record_fault_of number (24 + at) stuck }
+{
+    match stuck {
+        Stuck::Cut => CaptureFault::CutRecord {
+            number: number as u32,
+            at: (HEADER + at) as u32,
+        },
+        Stuck::Long { len } => CaptureFault::LongRecord {
+            number: number as u32,
+            len,
+        },
+    }
+}
+
+/// The places of the records behind a file header, where there are whole records and nothing more.
 fn places_of(alloc: Global, order: Order, records: &[u8]) -> Result<Vec<usize>, CaptureFault>
     requires { length records.now ≤ 33554432 }
     ensures text { IfOk result (λ places. records.now ≡ flat_map (record_text (order_view order)) (entries_at (order_view order) records.now places.items)) }
     ensures fit { IfOk result (λ places. AllByRecursion Fits (entries_at (order_view order) records.now places.items)) }
     ensures places { IfOk result (λ places. ArePlaces (order_view order) records.now places.items) }
-    ensures fault { IsErrOf result CaptureFault.FirstForm → (es : List spec.Entry) → AllByRecursion Fits es → records.now ≡ flat_map (record_text (order_view order)) es → ⊥ }
+    ensures fault { IfErr result (StandsInRecords (order_view order) records.now) }
 {
     let mut places = Vec::new(alloc);
     let mut at = 0;
     while at < records.len() {
         let (_, rest) = records.split_at(at);
-        let Some(size) = record_size(order, rest) else {
-            return Err(CaptureFault::FirstForm);
-        };
-        places.push(at)?;
-        at += size;
+        match record_size(order, rest) {
+            Ok(size) => {
+                places.push(at)?;
+                at += size;
+            }
+            Err(stuck) => return Err(record_fault(places.len(), at, stuck)),
+        }
     }
     Ok(places)
 }
@@ -57,22 +76,15 @@ impl Model for Capture {
 }
 
 impl Capture {
-    /// Reads a whole capture in its first form: little-endian, with fractions in microseconds. On a refusal the bytes are given up.
-    /// No frame is copied.
+    /// Reads a whole capture, in either byte order, with microseconds or nanoseconds. On a refusal the bytes are given up, and the
+    /// fault is the one that stands in them. No frame is copied.
     pub fn read(alloc: Global, bytes: Vec<u8>) -> Result<Capture, CaptureFault>
         requires { vec_len bytes ≤ 33554432 }
-        ensures whole { IfOk result (IsFirstCapture bytes.items) }
-        ensures fault { IsErrOf result CaptureFault.FirstForm → (c : Contents) → ¬ (IsFirstCapture bytes.items c) }
+        ensures whole { IfOk result (IsWhole bytes.items) }
+        ensures fault { IfErr result (StandsIn bytes.items) }
     {
-        if bytes.len() < HEADER {
-            return Err(CaptureFault::FirstForm);
-        }
-        let order = Order::Little;
-        let nano = false;
-        let (header, records) = bytes.split_at(HEADER);
-        if !is_header(order, nano, header) {
-            return Err(CaptureFault::FirstForm);
-        }
+        let Form { order, nano } = read_header(&bytes)?;
+        let (_, records) = bytes.split_at(HEADER);
         let places = places_of(alloc, order, records)?;
         Ok(Capture {
             order,

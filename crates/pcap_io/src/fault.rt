@@ -3,11 +3,21 @@ ghost use Rattle.pcap_io.specs.declared.fault.CaptureFault.TheVariants.{NoMemory
 
 use std::alloc::AllocFailed;
 
-/// Why bytes are not read as a capture.
+/// Why bytes are not read as a capture: the first check that fails, in the order of the variants and then of the records.
 #[derive(Clone, Copy, Debug, PartialEq, Eq)]
 pub enum CaptureFault {
-    /// The bytes are no whole capture that begins with `d4c3b2a1`: little-endian, with microseconds.
-    FirstForm,
+    /// There are fewer than 24 bytes: how many.
+    ShortHeader { len: u32 },
+    /// The first four bytes are no magic number in either byte order: their number, the highest byte first.
+    Magic { word: u32 },
+    /// The version is not 2.4.
+    Version { major: u16, minor: u16 },
+    /// The link type is not 1 (Ethernet).
+    Link { word: u32 },
+    /// The bytes end within a record: its number, counted from 0, and the place of its first byte.
+    CutRecord { number: u32, at: u32 },
+    /// A record has more than 262,144 captured bytes: its number, counted from 0, and its captured length.
+    LongRecord { number: u32, len: u32 },
     /// Memory ran out.
     NoMemory,
 }

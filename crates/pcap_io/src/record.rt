@@ -1,7 +1,7 @@
-ghost use Rattle.std.specs.Prelude.{◌≡◌, ◌+◌, ◌<◌, ◌≤◌, length, drop, IfSome, IfNone};
+ghost use Rattle.std.specs.Prelude.{◌≡◌, ◌+◌, ◌<◌, ◌≤◌, length, drop, IfOk, IfErr};
 ghost use Rattle.brick_spec.specs.CaptureFault.{captured_length};
-ghost use Rattle.pcap_io.specs.Reading.{front_entry, IsRecord, IsStuck};
-ghost use Rattle.pcap_io.specs.View.{entry_view, order_view};
+ghost use Rattle.pcap_io.specs.Reading.{front_entry, IsRecord};
+ghost use Rattle.pcap_io.specs.View.{entry_view, order_view, IsStuckBy};
 
 use crate::Entry;
 use crate::number::{Order, four_at};
@@ -12,22 +12,35 @@ pub const HEAD: usize = 16;
 /// The most bytes that a record may have captured.
 pub const LONGEST: u32 = 262_144;
 
+/// Why no whole record is at the front of bytes.
+#[derive(Clone, Copy, Debug, PartialEq, Eq)]
+pub enum Stuck {
+    /// They end within it.
+    Cut,
+    /// It has more captured bytes than a record may have, and how many.
+    Long { len: u32 },
+}
+
 /// The size in bytes of the whole record at the front.
 #[tactic(auto, using(crate::proofs::Places::captured_at))]
-pub fn record_size(order: Order, bytes: &[u8]) -> Option<usize>
+pub fn record_size(order: Order, bytes: &[u8]) -> Result<usize, Stuck>
     requires { 0 < length bytes.now }
-    ensures whole { IfSome result (λ n. IsRecord (order_view order) bytes.now × (n ≡ 16 + captured_length (order_view order) bytes.now)) }
-    ensures none { IfNone result (IsStuck (order_view order) bytes.now) }
+    ensures whole { IfOk result (λ n. IsRecord (order_view order) bytes.now × (n ≡ 16 + captured_length (order_view order) bytes.now)) }
+    ensures stuck { IfErr result (IsStuckBy (order_view order) bytes.now) }
 {
     if bytes.len() < HEAD {
-        return None;
+        return Err(Stuck::Cut);
     }
     let captured = four_at(order, bytes, 8);
     if captured > LONGEST {
-        return None;
+        return Err(Stuck::Long { len: captured });
     }
     let size = HEAD + captured as usize;
-    if bytes.len() < size { None } else { Some(size) }
+    if bytes.len() < size {
+        Err(Stuck::Cut)
+    } else {
+        Ok(size)
+    }
 }
 
 /// The whole record at the front.

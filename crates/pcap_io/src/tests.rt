@@ -8,9 +8,18 @@ const FILE_HEADER: [u8; 24] = [
     0xd4, 0xc3, 0xb2, 0xa1, 2, 0, 4, 0, 0, 0, 0, 0, 0, 0, 0, 0, 0, 0, 4, 0, 1, 0, 0, 0,
 ];
 
-/// The same in big-endian order, with nanoseconds.
+/// The same with nanoseconds.
+const NANO_HEADER: [u8; 24] = [
+    0x4d, 0x3c, 0xb2, 0xa1, 2, 0, 4, 0, 0, 0, 0, 0, 0, 0, 0, 0, 0, 0, 4, 0, 1, 0, 0, 0,
+];
+
+/// Both in big-endian order, with a snapshot length of 65,535.
+const BIG_HEADER: [u8; 24] = [
+    0xa1, 0xb2, 0xc3, 0xd4, 0, 2, 0, 4, 0, 0, 0, 0, 0, 0, 0, 0, 0, 0, 0xff, 0xff, 0, 0, 0, 1,
+];
+
 const BIG_NANO_HEADER: [u8; 24] = [
-    0xa1, 0xb2, 0x3c, 0x4d, 0, 2, 0, 4, 0, 0, 0, 0, 0, 0, 0, 0, 0, 4, 0, 0, 0, 0, 0, 1,
+    0xa1, 0xb2, 0x3c, 0x4d, 0, 2, 0, 4, 0, 0, 0, 0, 0, 0, 0, 0, 0, 0, 0xff, 0xff, 0, 0, 0, 1,
 ];
 
 /// Second 1, fraction 2, 46 bytes captured of 46.
@@ -40,12 +49,6 @@ fn read(rt: &impl Abort, alloc: Global, bytes: Vec<u8>) -> Result<Capture, Captu
     Capture::read(alloc, bytes)
 }
 
-fn zeros(alloc: Global, len: usize) -> Result<Vec<u8>, AllocError> {
-    let mut bytes = Vec::new(alloc);
-    bytes.resize(len, 0)?;
-    Ok(bytes)
-}
-
 /// How many records are read of a file header, a record's numbers and its frame.
 fn count(
     rt: &impl Abort,
@@ -60,24 +63,65 @@ fn count(
     Ok(read(rt, alloc, bytes)?.count())
 }
 
+/// A file header with one byte changed.
+fn edited(mut header: [u8; 24], at: usize, byte: u8) -> [u8; 24] {
+    if let Some(place) = header.get_mut(at) {
+        *place = byte;
+    }
+    header
+}
+
 #[test]
-fn captures(rt: HostRuntime) -> Result<(), Fail> {
-    let mut other_link = FILE_HEADER;
-    other_link[20] = 2;
-    let mut other_version = FILE_HEADER;
-    other_version[6] = 3;
-    let long = zeros(rt.alloc(), 262_145)?;
-    let refused = Err(CaptureFault::FirstForm);
-    let table: [(&[u8], &[u8], &[u8], Result<u32, CaptureFault>); 7] = [
-        (&[], &[], &[], refused),
-        (&FILE_HEADER, &[], &[], Ok(0)),
-        (&FILE_HEADER, &RECORD_HEAD, &FRAME, Ok(1)),
-        (&FILE_HEADER, &LONG_RECORD_HEAD, long.as_slice(), refused),
-        (&BIG_NANO_HEADER, &BIG_RECORD_HEAD, &FRAME, refused),
-        (&other_link, &RECORD_HEAD, &FRAME, refused),
-        (&other_version, &RECORD_HEAD, &FRAME, refused),
+fn first_faults(rt: HostRuntime) -> Result<(), Fail> {
+    let other_magic = edited(FILE_HEADER, 0, 0xd5);
+    let other_link = edited(FILE_HEADER, 20, 2);
+    let other_version = edited(FILE_HEADER, 6, 3);
+    let big_other_version = edited(BIG_HEADER, 4, 7);
+    let both = edited(other_version, 20, 2);
+    let table: [(&[u8], &[u8], Result<u32, CaptureFault>); 10] = [
+        (&[], &[], Err(CaptureFault::ShortHeader { len: 0 })),
+        (&FILE_HEADER, &[], Ok(0)),
+        (&BIG_HEADER, &BIG_RECORD_HEAD, Ok(1)),
+        (&BIG_NANO_HEADER, &BIG_RECORD_HEAD, Ok(1)),
+        (
+            &other_magic,
+            &RECORD_HEAD,
+            Err(CaptureFault::Magic { word: 0xd5c3_b2a1 }),
+        ),
+        (
+            &other_version,
+            &RECORD_HEAD,
+            Err(CaptureFault::Version { major: 2, minor: 3 }),
+        ),
+        (
+            &big_other_version,
+            &RECORD_HEAD,
+            Err(CaptureFault::Version {
+                major: 1794,
+                minor: 4,
+            }),
+        ),
+        (
+            &both,
+            &RECORD_HEAD,
+            Err(CaptureFault::Version { major: 2, minor: 3 }),
+        ),
+        (
+            &other_link,
+            &RECORD_HEAD,
+            Err(CaptureFault::Link { word: 2 }),
+        ),
+        (
+            &FILE_HEADER,
+            &LONG_RECORD_HEAD,
+            Err(CaptureFault::LongRecord {
+                number: 0,
+                len: 262_145,
+            }),
+        ),
     ];
-    for (header, head, frame, want) in table {
+    for (header, head, want) in table {
+        let frame: &[u8] = if head.len() == 0 { &[] } else { &FRAME };
         assert_eq!(rt;
             count(&rt, rt.alloc(), header, head, frame),
             want,
@@ -88,32 +132,69 @@ fn captures(rt: HostRuntime) -> Result<(), Fail> {
 }
 
 #[test]
-fn cut_captures(rt: HostRuntime) -> Result<(), Fail> {
-    let parts: [&[u8]; 7] = [
-        &FILE_HEADER,
-        &RECORD_HEAD,
-        &FRAME,
-        &RECORD_HEAD,
-        &FRAME,
-        &RECORD_HEAD,
-        &FRAME,
+fn every_prefix(rt: HostRuntime) -> Result<(), Fail> {
+    let record = [RECORD_HEAD.as_slice(), FRAME.as_slice()];
+    let parts = [
+        FILE_HEADER.as_slice(),
+        record[0],
+        record[1],
+        record[0],
+        record[1],
+        record[0],
+        record[1],
     ];
-    for len in 0..211 {
+    for len in 0..211u32 {
         let mut bytes = joined(rt.alloc(), &parts)?;
         assert_eq!(rt; bytes.len(), 210);
-        bytes.truncate(len);
+        bytes.truncate(len as usize);
         let want = match len {
+            0..24 => Err(CaptureFault::ShortHeader { len }),
             24 => Ok(0),
+            25..86 => Err(CaptureFault::CutRecord { number: 0, at: 24 }),
             86 => Ok(1),
+            87..148 => Err(CaptureFault::CutRecord { number: 1, at: 86 }),
             148 => Ok(2),
-            210 => Ok(3),
-            _ => Err(CaptureFault::FirstForm),
+            149..210 => Err(CaptureFault::CutRecord { number: 2, at: 148 }),
+            _ => Ok(3),
         };
         let found = match read(&rt, rt.alloc(), bytes) {
             Ok(capture) => Ok(capture.count()),
             Err(fault) => Err(fault),
         };
         assert_eq!(rt; found, want, "{len} bytes");
+    }
+    Ok(())
+}
+
+/// What the writer writes of the first record of a capture.
+fn rewritten(rt: &impl Abort, alloc: Global, capture: &Capture) -> Result<Vec<u8>, Fail> {
+    assert!(rt; 0 < capture.count());
+    let entry = capture.entry(0);
+    let item = Item {
+        a: 0,
+        j: 0,
+        seconds: entry.seconds,
+        fraction: entry.fraction,
+        original: entry.original,
+        frame: Frame::of(entry.frame.to_vec(alloc)?),
+    };
+    let mut writer = Writer::new(alloc, capture.nano())?;
+    assert!(rt; item.frame.as_slice().len() <= 262_144);
+    writer.append(&item)?;
+    Ok(writer.into_bytes())
+}
+
+#[test]
+fn foreign_captures(rt: HostRuntime) -> Result<(), Fail> {
+    let alloc = rt.alloc();
+    for (foreign, header) in [(BIG_HEADER, FILE_HEADER), (BIG_NANO_HEADER, NANO_HEADER)] {
+        let bytes = joined(alloc, &[foreign.as_slice(), &BIG_RECORD_HEAD, &FRAME])?;
+        let capture = read(&rt, alloc, bytes)?;
+        let want = joined(alloc, &[header.as_slice(), &RECORD_HEAD, &FRAME])?;
+        assert_eq!(rt;
+            rewritten(&rt, alloc, &capture)?.as_slice(),
+            want.as_slice()
+        );
     }
     Ok(())
 }

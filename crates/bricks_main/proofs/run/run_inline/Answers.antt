@@ -8,9 +8,8 @@ pub returns : goal.returns
 returns g c = promises_kept (IsTrue g.S.Store.tells) (IsTrue g.P.Sink.tells) c.args.chains.now c.args.out_dir.now
     (seen (g.S.Store.file c.args.store.now) (g.S.Store.faults c.args.store.now) (g.P.Sink.written c.args.out.now) (g.P.Sink.faults c.args.out.now))
     (seen (g.S.Store.file c.run_files-outcome.new.store) (g.S.Store.faults c.run_files-outcome.new.store) (g.P.Sink.written c.tell.new.sink) (g.P.Sink.faults c.tell.new.sink))
-    (outcome_view c.run_files-outcome.result) c.tell.result c.run_files-outcome.ensures.known (record {
-      leaves = c.run_files-outcome.ensures.leaves;
-      fault = c.run_files-outcome.ensures.fault;
+    (outcome_view c.run_files-outcome.result) c.tell.result (record {
+      is_true = c.run_files-outcome.ensures;
       told = c.tell.ensures.told;
       sink = c.tell.ensures.fault;
       shown = c.tell.ensures.shown;
