@@ -1,7 +1,7 @@
 -- Flow classes: of which flow each record of a capture is. All records are classified in the order of the capture, also those
 -- that are refused or dropped later.
-use Rattle.std.specs.Prelude.{ℕ, ◌+◌, nat_lt, nat_le, nat_eq, Bool, true, false, ◌&&◌, ◌||◌, if◌then◌else◌, Option, Some, None, is_some, is_none, List, [], ◌∷◌, ◌++◌, length, take, count_by, fold, slice_index}
-use Rattle.std.specs.List.{position, slice_index_or}
+use Rattle.std.specs.Prelude.{ℕ, ◌+◌, nat_lt, nat_le, nat_eq, Bool, true, false, ◌&&◌, ◌||◌, if◌then◌else◌, Option, Some, None, is_some, is_none, List, [], ◌∷◌, ◌++◌, length, take, map, count_by, fold}
+use Rattle.std.specs.List.{position, slice_index_or, range_with_len}
 use Rattle.byteorder.specs.Endian.{big_bytes}
 use Rattle.brick_spec.specs.Hash as fnv
 use Rattle.brick_spec.specs.Tuple.{Tuple, tuple_of}
@@ -170,3 +170,11 @@ flows_of plan frames = fold (λ flows frame. flows_after plan flows (tuple_of fr
 -- the class of a record, by the frames of the records before it and its own
 abbrev pub class_of : Option NatPlan → List (List ℕ) → List ℕ → Class
 class_of plan before frame = class_in plan (flows_of plan before) (tuple_of frame)
+
+-- the class of record k, by the frames of all records
+abbrev pub class_at : Option NatPlan → List (List ℕ) → ℕ → Class
+class_at plan frames k = class_of plan (take k frames) (slice_index_or frames k [])
+
+-- the classes of all records, in order
+abbrev pub classes_of : Option NatPlan → List (List ℕ) → List Class
+classes_of plan frames = map (class_at plan frames) (range_with_len 0 (length frames))

@@ -1,3 +1,4 @@
 mod Places
 mod More
 mod Views
+mod Captures

@@ -2,3 +2,4 @@ pub mod View
 pub mod OpenedView
 pub mod Maps
 pub mod Found
+pub mod Frames

@@ -79,7 +79,9 @@ fn end_bytes(end: End) -> [u8; 6]
 {
     let address = end.address.to_be_bytes();
     let port = end.port.to_be_bytes();
-    [address[0], address[1], address[2], address[3], port[0], port[1]]
+    [
+        address[0], address[1], address[2], address[3], port[0], port[1],
+    ]
 }
 
 /// The hash of a key.

@@ -1,12 +1,16 @@
 //! Flow classes: of which flow each record of a capture is, its direction there, and its rank for the translation of addresses.
 #![tactic(auto)]
 
+mod classes;
 mod classifier;
 mod ends;
 mod key;
 mod opened;
 mod plan;
 mod search;
+#[cfg(test)]
+mod tests;
 
+pub use classes::classify_all;
 pub use classifier::Classifier;
 pub use plan::NatPlan;

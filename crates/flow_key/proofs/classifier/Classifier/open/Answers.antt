@@ -16,7 +16,7 @@ invariant_of-self-2 c =
     let flows = map opened_view c.self.inside.flows.items in
     let t = option_map tuple_view c.args.tuple.now in
     let none = none_same (spec.reply_of (option_map plan_view c.self.inside.plan) flows t) (spec.same_key_of flows t) flows t
-        (ap (λ (s : Seen). spec.found_in s.plan s.flows t) c.self.view_is ∙ c.requires.none) in
+    (ap (λ (s : Seen). spec.found_in s.plan s.flows t) c.self.view_is ∙ c.requires.none) in
     let stay = c.in_ok-reserve.ensures.items in
     let n = c.count-number.ensures ∙ ap length (c.deref.ensures.value ∙ stay) ∙ sym (length-map c.self.inside.flows.items opened_view) in
     let new : Opened = record { first = c.args.tuple.now; rank = c.put_rank-rank.result } in
