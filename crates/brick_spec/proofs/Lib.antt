@@ -3,3 +3,4 @@ pub mod ByteLists
 pub mod Words
 pub mod Checksums
 pub mod Streams
+pub mod Positions

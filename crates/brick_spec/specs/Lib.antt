@@ -29,3 +29,4 @@ pub mod FlowClass
 pub mod Route
 pub mod Firewall
 pub mod AcceptedWords
+pub mod GroupOutput

@@ -11,7 +11,7 @@ use Rattle.brick_spec.specs.Route as spec
 use Rattle.lpm_fw.specs.declared.routes.Route.{Route}
 use Rattle.lpm_fw.specs.RouteView.{route_view}
 use Rattle.lpm_fw.specs.Scan.{Best, IsBest}
-use Rattle.lpm_fw.proofs.Positions.{position-map, mapped_get, get_mapped, position_at, position_none, any_none}
+use Rattle.brick_spec.proofs.Positions.{position-map, mapped_get, get_mapped, position_at, position_none, any_none}
 
 -- a row that leads to the address and is longer than another
 abbrev is_longer : ℕ → ℕ → spec.Route → Bool

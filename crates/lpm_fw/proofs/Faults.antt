@@ -9,7 +9,7 @@ use Rattle.lpm_fw.specs.declared.routes.Route.{Route}
 use Rattle.lpm_fw.specs.declared.routes.RouteFault.{RouteFault}
 use Rattle.lpm_fw.specs.RouteView.{route_view, fault_view}
 use Rattle.lpm_fw.specs.Scan.{ScannedFault}
-use Rattle.lpm_fw.proofs.Positions.{mapped_get, get_mapped}
+use Rattle.brick_spec.proofs.Positions.{mapped_get, get_mapped}
 
 -- the rows before r have no fault
 abbrev pub RightBefore : List Route → ℕ → Type 0

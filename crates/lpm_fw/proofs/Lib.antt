@@ -1,4 +1,3 @@
-mod Positions
 mod Faults
 mod Choice
 mod Unique

@@ -2,7 +2,7 @@ use Rattle.std.proofs.Common.{◌≡◌, ◌∙◌, ℕ, ap, sym, Option, Some, 
 use Rattle.std.specs.List.{position}
 use Rattle.brick_spec.specs.Route as spec
 use Rattle.lpm_fw.specs.RouteView.{route_view}
-use Rattle.lpm_fw.proofs.Positions.{position-map}
+use Rattle.brick_spec.proofs.Positions.{position-map}
 use Rattle.lpm_fw.proofs.routes.fault_at.Goals as goal
 
 pub returns-in-Some : goal.returns-in-Some
