@@ -30,3 +30,4 @@ pub mod Route
 pub mod Firewall
 pub mod AcceptedWords
 pub mod GroupOutput
+pub mod AddressTranslation
