@@ -188,11 +188,11 @@ udp_found frame header payload cut o q n len field d e absent f there le fe = re
   field_is = fe ∙ ap (λ xs. word_at xs 6) d.payload_is;
 }
 
-first_true : (a b : Bool) → a ≡ true → (a || b) ≡ true
+pub first_true : (a b : Bool) → a ≡ true → (a || b) ≡ true
 first_true true b h = refl
 first_true false b h = cc
 
-second_true : (a b : Bool) → b ≡ true → (a || b) ≡ true
+pub second_true : (a b : Bool) → b ≡ true → (a || b) ≡ true
 second_true true b h = refl
 second_true false b h = h
 

@@ -1,4 +1,5 @@
 pub mod LayerLaws
+pub mod TransportLaws
 pub mod Datagrams
 pub mod View
 pub mod PrefixView

@@ -6,6 +6,7 @@
 #![tactic(auto)]
 
 mod datagram;
+mod laws;
 mod matching;
 mod tcp;
 mod tcp_header;
@@ -17,6 +18,7 @@ mod udp;
 mod udp_header;
 mod words;
 
+pub use laws::transport_edits_keep_right;
 pub use matching::Match;
 pub use tcp::Tcp;
 pub use tcp_header::{TcpMut, TcpView, set_tcp_destination_port, set_tcp_source_port, tcp_acknowledgement, tcp_address_changed, tcp_checksum, tcp_flags, tcp_sequence, tcp_window};
