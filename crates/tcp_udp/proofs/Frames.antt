@@ -106,12 +106,15 @@ tcp_outer : (frame : List ℕ) (l : Layer) (header : List ℕ) → IsTcpFrame fr
     → IsTcpFrame (edited_at (λ _. header) frame l) l × (header_in (edited_at (λ _. header) frame l) l ≡ header) × (payload_in (edited_at (λ _. header) frame l) l ≡ payload_in frame l)
 tcp_outer frame l header is same =
     let frame' = edited_at (λ _. header) frame l in
-    let e = outer_edit frame l header is.layer same.long same.first same.total in
-    (record {
-      layer = e.layer;
-      whole = cut-same frame frame' l e.long (ap ip4_total e.header_is ∙ same.total) is.whole;
-      has = (λ i. has_tcp (e.header_is i) (e.payload_is i)) ∙ ((λ i. same.carried 6 i && (nat_le 20 (length (payload_in frame l)) && (nat_le 20 (tcp_header_bytes (payload_in frame l)) && nat_le (tcp_header_bytes (payload_in frame l)) (length (payload_in frame l))))) ∙ is.has);
-    }, e.header_is, e.payload_is)
+    let e = outer_edit frame l header is.layer same.long same.first same.total in (
+      record {
+        layer = e.layer;
+        whole = cut-same frame frame' l e.long (ap ip4_total e.header_is ∙ same.total) is.whole;
+        has = (λ i. has_tcp (e.header_is i) (e.payload_is i)) ∙ ((λ i. same.carried 6 i && (nat_le 20 (length (payload_in frame l)) && (nat_le 20 (tcp_header_bytes (payload_in frame l)) && nat_le (tcp_header_bytes (payload_in frame l)) (length (payload_in frame l))))) ∙ is.has);
+      },
+      e.header_is,
+      e.payload_is,
+    )
 
 tcp_parts : (frame : List ℕ) (l : Layer) → IsIp4Frame frame l → IsTcpFrame frame l → AreParts (header_in frame l) (payload_in frame l) 8
 tcp_parts frame l f is =
@@ -245,14 +248,17 @@ udp_outer frame l header is same =
     let e = outer_edit frame l header is.layer same.long same.first same.total in
     let size = ap length e.payload_is in
     let total = ap udp_total e.payload_is in
-    let within = is.within in
-    (record {
-      layer = e.layer;
-      whole = cut-same frame frame' l e.long (ap ip4_total e.header_is ∙ same.total) is.whole;
-      no_tcp = ap (carries 6) e.header_is ∙ (same.carried 6 ∙ is.no_tcp);
-      has = (λ i. has_udp (e.header_is i) (e.payload_is i)) ∙ ((λ i. same.carried 17 i && (nat_le 8 (length P) && nat_le 8 (udp_total P))) ∙ is.has);
-      within = omega arith;
-    }, e.header_is, e.payload_is)
+    let within = is.within in (
+      record {
+        layer = e.layer;
+        whole = cut-same frame frame' l e.long (ap ip4_total e.header_is ∙ same.total) is.whole;
+        no_tcp = ap (carries 6) e.header_is ∙ (same.carried 6 ∙ is.no_tcp);
+        has = (λ i. has_udp (e.header_is i) (e.payload_is i)) ∙ ((λ i. same.carried 17 i && (nat_le 8 (length P) && nat_le 8 (udp_total P))) ∙ is.has);
+        within = omega arith;
+      },
+      e.header_is,
+      e.payload_is,
+    )
 
 udp_parts : (frame : List ℕ) (l : Layer) → IsIp4Frame frame l → IsUdpFrame frame l → AreParts (header_in frame l) (datagram_in frame l) 3
 udp_parts frame l f is =

@@ -5,3 +5,4 @@ pub mod Edits
 pub mod Right
 pub mod Addresses
 pub mod Frames
+pub mod PacketLayers

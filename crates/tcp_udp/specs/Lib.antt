@@ -4,3 +4,4 @@ pub mod Datagrams
 pub mod View
 pub mod PrefixView
 pub mod MatchView
+pub mod PacketLayers
