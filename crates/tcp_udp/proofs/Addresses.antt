@@ -1,12 +1,12 @@
 -- An IPv4 header with another address.
-use Rattle.std.proofs.Common.{◌≡◌, ◌≢◌, ℕ, zero, suc, ◌+◌, ◌-◌, ◌*◌, ◌/◌, ◌%◌, ◌^◌, ◌<◌, ◌≤◌, List, length, take, drop, slice_index, slice_range, get_or, nat_le, nat_eq, Bool, not, ◌&&◌, refl, ap, sym, ◌∙◌, arith}
+use Rattle.std.proofs.Common.{◌≡◌, ◌≢◌, ℕ, suc, ◌+◌, ◌*◌, ◌/◌, ◌%◌, ◌^◌, ◌<◌, ◌≤◌, List, length, slice_index, nat_le, nat_eq, not, ◌&&◌, ap, sym, ◌∙◌, arith}
 use Rattle.std.proofs.lemmas.List.{get_or-drop}
 use Rattle.brick_spec.specs.Bytes.{IsBytes}
-use Rattle.brick_spec.specs.Checksum.{adjusted, sum_of_words}
-use Rattle.brick_spec.specs.Header.{word_at, with_word, number_at, high_word, low_word}
-use Rattle.brick_spec.specs.Layer.{protocol_of, source_of, destination_of, carries}
+use Rattle.brick_spec.specs.Checksum.{adjusted}
+use Rattle.brick_spec.specs.Header.{word_at, with_word, high_word, low_word}
+use Rattle.brick_spec.specs.Layer.{source_of, destination_of, carries}
 use Rattle.brick_spec.specs.Edit.{ip4_edited, with_source, with_destination}
-use Rattle.brick_spec.proofs.Words.{double, word_at-with_word, word_at-with_other, length-with_word, word_small}
+use Rattle.brick_spec.proofs.Words.{double, word_at-with_word, word_at-with_other, length-with_word}
 use Rattle.tcp_udp.proofs.Edits.{byte-before}
 use Rattle.tcp_udp.proofs.Right.{IsReaddressed, number-words, addresses-sum}
 

@@ -1,14 +1,13 @@
 -- Edits of the front of a list, and of a header in a frame.
-use Rattle.std.proofs.Common.{◌≡◌, ℕ, zero, suc, ◌+◌, ◌-◌, ◌*◌, ◌<◌, ◌≤◌, List, [], ◌∷◌, ◌++◌, length, take, drop, slice_index, slice_range, get_or, Some, refl, ap, sym, ◌∙◌, arith, length-take, length-take-le, length-drop, length-append, append_assoc}
-use Rattle.std.proofs.lemmas.List.{take_at, drop_at, take-append-le, drop-drop, get_or-take, get_or-drop}
+use Rattle.std.proofs.Common.{◌≡◌, ℕ, zero, suc, ◌+◌, ◌-◌, ◌<◌, ◌≤◌, List, [], ◌∷◌, ◌++◌, length, take, drop, slice_index, slice_range, Some, refl, ap, sym, ◌∙◌, arith, length-take, length-take-le, length-drop, length-append, append_assoc}
+use Rattle.std.proofs.lemmas.List.{take_at, drop_at, drop-drop, get_or-take, get_or-drop}
 use Rattle.std.proofs.lemmas.Slice.{between_is}
-use Rattle.brick_spec.specs.Checksum.{adjusted}
 use Rattle.brick_spec.specs.Header.{word_at, with_word}
-use Rattle.brick_spec.specs.Layer.{Layer, header_in, payload_in, ip4_layer, ip4_total}
-use Rattle.brick_spec.specs.Edit.{readdressed, tcp_edited, with_tcp_address, udp_adjusted, udp_readdressed, udp_edited, with_udp_address, with_header, edited_at}
+use Rattle.brick_spec.specs.Layer.{Layer, header_in, payload_in, ip4_layer}
+use Rattle.brick_spec.specs.Edit.{with_header, edited_at}
 use Rattle.brick_spec.proofs.Words.{with_word-append, word_at-append, length-with_word}
 use Rattle.tcp_udp.proofs.Segments.{word_at-range}
-use Rattle.eth_ip.proofs.FrameLayers.{HasIp4Layer, ip4_layer_says, ip4_layer-same, word_at-drop}
+use Rattle.eth_ip.proofs.FrameLayers.{ip4_layer_says, ip4_layer-same}
 
 take_drop : (n : ℕ) (xs : List ℕ) → take n xs ++ drop n xs ≡ xs
 take_drop zero xs = refl

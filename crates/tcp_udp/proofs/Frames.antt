@@ -1,22 +1,22 @@
 -- A frame whose transport checksum is right, after an edit.
-use Rattle.std.proofs.Common.{◌≡◌, ◌≢◌, ◌⊎◌, inl, inr, ℕ, zero, suc, ◌+◌, ◌-◌, ◌*◌, ◌/◌, ◌%◌, ◌^◌, ◌<◌, ◌≤◌, List, length, take, drop, slice_index, slice_range, nat_eq, nat_le, nat_lt, Bool, true, false, not, ◌&&◌, Option, Some, None, if◌then◌else◌, refl, ap, sym, subst, ◌∙◌, arith, length-take, length-take-le, length-drop}
+use Rattle.std.proofs.Common.{◌≡◌, ◌⊎◌, inl, inr, ℕ, ◌+◌, ◌-◌, ◌*◌, ◌/◌, ◌^◌, ◌<◌, ◌≤◌, List, length, take, drop, slice_index, nat_eq, nat_le, nat_lt, Bool, true, false, ◌&&◌, Option, Some, None, if◌then◌else◌, refl, ap, sym, subst, ◌∙◌, arith, length-take, length-take-le, length-drop}
 use Rattle.std.specs.Prelude.{option_map, option_and_then}
 use Rattle.std.proofs.lemmas.Bool.Decides.{nat_tests}
 use Rattle.brick_spec.specs.Bytes.{IsBytes}
 use Rattle.brick_spec.specs.Checksum.{adjusted}
-use Rattle.brick_spec.specs.Header.{word_at, with_word, high_word, low_word}
+use Rattle.brick_spec.specs.Header.{word_at, with_word}
 use Rattle.brick_spec.specs.Layer.{Layer, header_in, payload_in, protocol_of, carries, source_of, destination_of, ip4_total, ip4_layer, tcp_header_bytes, has_tcp, tcp_layer_in, tcp_layer, udp_total, has_udp, udp_extent, udp_layer_in, udp_layer}
 use Rattle.brick_spec.specs.Edit.{with_source, with_destination, edited_at, readdressed, with_tcp_source, with_tcp_destination, with_tcp_address, udp_adjusted, udp_readdressed, with_udp_source, with_udp_destination, with_udp_address}
 use Rattle.brick_spec.specs.Transport.{is_tcp_right, is_udp_right, is_cut, transport_ok_in, transport_ok}
 use Rattle.brick_spec.proofs.ByteLists.{IsBytes-range, IsBytes-take}
-use Rattle.brick_spec.proofs.Words.{double, word_small, word_at-with_other, length-with_word}
+use Rattle.brick_spec.proofs.Words.{word_small, word_at-with_other, length-with_word}
 use Rattle.eth_ip.specs.LayerLaws.{both, word_at-take}
 use Rattle.eth_ip.proofs.FrameLayers.{ip4_layer_says}
 use Rattle.tcp_udp.specs.LayerLaws.{has_tcp_says, has_udp_says}
 use Rattle.tcp_udp.specs.TransportLaws.{TransportStaysRight}
 use Rattle.tcp_udp.proofs.Segments.{tcp_at, udp_at}
 use Rattle.tcp_udp.proofs.Reading.{cut_answer, tcp_answer, udp_checked, udp_unchecked, answer_in, first_true, second_true}
-use Rattle.tcp_udp.proofs.Edits.{IsFrontEdit, front_words, front_checksum, front-take, IsInnerEdit, inner_edit, IsOuterEdit, outer_edit, byte-before, byte-behind}
+use Rattle.tcp_udp.proofs.Edits.{IsFrontEdit, front_words, front_checksum, front-take, inner_edit, outer_edit, byte-before, byte-behind}
 use Rattle.tcp_udp.proofs.Right.{AreParts, IsReaddressed, eq_of_test, tcp-edited-right, udp-edited-right, tcp-address-right, udp-address-right}
 use Rattle.tcp_udp.proofs.Addresses.{IsSameButAddresses, with_source_same, with_destination_same, with_source_readdressed, with_destination_readdressed}
 

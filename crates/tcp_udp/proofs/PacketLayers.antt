@@ -2,7 +2,7 @@
 use Rattle.std.proofs.Common.{◌≡◌, ℕ, ◌+◌, ◌-◌, ◌≤◌, List, [], ◌∷◌, ◌++◌, length, take, drop, Option, Some, None, refl, ap, sym, ◌∙◌, arith, length-take-le, length-drop, length-append}
 use Rattle.std.proofs.lemmas.List.{drop-drop, take_all}
 use Rattle.std.specs.Prelude.{option_map, option_and_then, MatchOption}
-use Rattle.brick_spec.specs.Layer.{Layer, ethernet_length, ethernet_layer, ip4_length, ip4_extent, ip4_layer_in, ip4_layer, tcp_length, tcp_extent, tcp_layer_in, tcp_layer, udp_length, udp_extent, udp_layer_in, udp_layer}
+use Rattle.brick_spec.specs.Layer.{Layer, ethernet_length, ethernet_layer, ip4_length, ip4_extent, ip4_layer_in, ip4_layer, tcp_length, tcp_extent, tcp_layer, udp_length, udp_extent, udp_layer}
 use Rattle.packet_owner.specs.Packet.{PacketModel, innermost, here_of, next_layer, parsed, overwritten}
 use Rattle.brick_spec.specs.Edit.{with_header}
 use Rattle.packet_owner.proofs.Raw.{raw_ethernet}

@@ -1,5 +1,5 @@
 -- A segment whose checksum is right, after an edit.
-use Rattle.std.proofs.Common.{◌≡◌, ◌≢◌, ℕ, zero, suc, ◌+◌, ◌-◌, ◌*◌, ◌/◌, ◌%◌, ◌^◌, ◌<◌, ◌≤◌, List, [], ◌∷◌, length, take, drop, slice_index, slice_range, nat_eq, Bool, true, false, refl, ap, sym, ◌∙◌, arith, length-take-le, length-drop}
+use Rattle.std.proofs.Common.{◌≡◌, ◌≢◌, ℕ, zero, suc, ◌+◌, ◌-◌, ◌*◌, ◌^◌, ◌<◌, ◌≤◌, List, [], ◌∷◌, length, drop, slice_index, slice_range, nat_eq, true, refl, ap, sym, ◌∙◌, arith, length-take-le, length-drop}
 use Rattle.std.proofs.lemmas.Bool.Decides.{nat_tests}
 use Rattle.brick_spec.specs.Bytes.{IsBytes}
 use Rattle.brick_spec.specs.Checksum.{folded, sum_of_words, adjusted}
