@@ -1,18 +1,18 @@
 -- What the readers of a frame find.
-use Rattle.std.proofs.Common.{◌≡◌, ℕ, ◌+◌, ◌-◌, ◌*◌, ◌/◌, ◌<◌, ◌≤◌, ◌^◌, List, length, take, drop, slice_range, Bool, true, false, Option, Some, None, if◌then◌else◌, is_some, min, nat_lt, nat_le, nat_eq, ◌||◌, refl, ap, sym, ◌∙◌, arith, length-take, length-take-le, length-drop}
+use Rattle.std.proofs.Common.{◌≡◌, ℕ, ◌+◌, ◌-◌, ◌<◌, ◌≤◌, ◌^◌, List, length, take, drop, Bool, true, false, Option, Some, None, if◌then◌else◌, is_some, min, nat_lt, nat_le, nat_eq, ◌||◌, refl, ap, sym, ◌∙◌, arith, length-take, length-take-le, length-drop}
 use Rattle.std.specs.Prelude.{option_map, option_and_then}
 use Rattle.std.specs.Option.{option_or}
 use Rattle.std.proofs.lemmas.Bool.Decides.{nat_tests}
-use Rattle.std.proofs.lemmas.List.{take_all, drop-drop}
+use Rattle.std.proofs.lemmas.List.{drop-drop}
 use Rattle.brick_spec.specs.Header.{word_at}
 use Rattle.brick_spec.specs.Layer.{Layer, header_in, payload_in, segment_in, ethernet_length, ethernet_layer, ip4_length, ip4_extent, ip4_total, ip4_layer_in, ip4_layer, tcp_header_bytes, has_tcp, tcp_length, tcp_layer_in, udp_total, has_udp, udp_length, udp_layer_in, source_port, destination_port}
 use Rattle.brick_spec.specs.Tuple.{ports_at, transport_layer_in}
 use Rattle.brick_spec.specs.Transport.{is_tcp_right, is_udp_right, is_cut, is_too_long, is_unchecked, tcp_ok_at, udp_ok_at, transport_ok_in, transport_ok}
-use Rattle.eth_ip.specs.LayerLaws.{some_if, le_of_test, test_of_le, ip4_length_says, word_at-take}
+use Rattle.eth_ip.specs.LayerLaws.{some_if, le_of_test, ip4_length_says, word_at-take}
 use Rattle.eth_ip.proofs.FrameLayers.{ethernet_at, ethernet_payload, extent_is}
 use Rattle.tcp_udp.specs.Datagrams.{IsDatagram}
-use Rattle.tcp_udp.specs.LayerLaws.{has_tcp_says, has_udp_says}
-use Rattle.tcp_udp.proofs.Segments.{whole_payload, inner_word, tcp_at, tcp_there, tcp_absent, udp_at, udp_there, udp_absent, udp_segment, tcp_ports, udp_ports}
+use Rattle.tcp_udp.specs.LayerLaws.{has_udp_says}
+use Rattle.tcp_udp.proofs.Segments.{whole_payload, inner_word, tcp_at, tcp_there, tcp_absent, udp_at, udp_there, udp_segment, tcp_ports, udp_ports}
 
 lt_same : (a b c d : ℕ) → c ≡ a + 14 → d ≡ 14 + b → nat_lt a b ≡ nat_lt c d
 lt_same a b c d e f = grind (arith, nat_tests)
@@ -188,11 +188,11 @@ udp_found frame header payload cut o q n len field d e absent f there le fe = re
   field_is = fe ∙ ap (λ xs. word_at xs 6) d.payload_is;
 }
 
-first_true : (a b : Bool) → a ≡ true → (a || b) ≡ true
+pub first_true : (a b : Bool) → a ≡ true → (a || b) ≡ true
 first_true true b h = refl
 first_true false b h = cc
 
-second_true : (a b : Bool) → b ≡ true → (a || b) ≡ true
+pub second_true : (a b : Bool) → b ≡ true → (a || b) ≡ true
 second_true true b h = refl
 second_true false b h = h
 

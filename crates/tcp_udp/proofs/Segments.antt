@@ -1,6 +1,6 @@
 -- The TCP and the UDP layer in an IPv4 payload.
-use Rattle.std.proofs.Common.{◌≡◌, ℕ, ◌+◌, ◌-◌, ◌*◌, ◌/◌, ◌<◌, ◌≤◌, List, length, take, drop, slice_index, slice_range, get_or, Bool, true, false, Option, Some, None, if◌then◌else◌, is_some, min, max, nat_le, refl, ap, sym, ◌∙◌, arith, length-take, length-take-le, length-drop}
-use Rattle.std.specs.Prelude.{option_map, option_and_then}
+use Rattle.std.proofs.Common.{◌≡◌, ℕ, ◌+◌, ◌-◌, ◌≤◌, List, length, take, drop, slice_range, Bool, true, false, Option, Some, None, if◌then◌else◌, min, nat_le, refl, ap, sym, ◌∙◌, arith, length-take, length-take-le}
+use Rattle.std.specs.Prelude.{option_map}
 use Rattle.std.specs.Option.{option_or}
 use Rattle.std.proofs.lemmas.List.{take-take, take_min}
 use Rattle.brick_spec.specs.Header.{word_at}

@@ -1,6 +1,6 @@
 -- What holds of the lengths and ends of the TCP and the UDP layer.
-use Rattle.std.specs.Prelude.{ℕ, ◌≡◌, ◌+◌, ◌*◌, ◌/◌, ◌≤◌, ◌<◌, nat_le, nat_eq, ◌&&◌, Bool, true, false, List, length, take, slice_index, Some, None, if◌then◌else◌, refl}
-use Rattle.std.proofs.Common.{arith, ap, sym, ◌∙◌}
+use Rattle.std.specs.Prelude.{ℕ, ◌≡◌, ◌*◌, ◌/◌, ◌≤◌, true, List, length, take, slice_index, Some, None, if◌then◌else◌}
+use Rattle.std.proofs.Common.{arith, ap, ◌∙◌}
 use Rattle.std.proofs.lemmas.List.{get_or-take, length-take-le}
 use Rattle.brick_spec.specs.Layer.{carries, tcp_header_bytes, has_tcp, tcp_length, udp_total, has_udp, udp_length, udp_extent}
 use Rattle.brick_base.specs.Layering.{IsLengthWithin}

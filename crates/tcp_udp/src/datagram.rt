@@ -5,7 +5,9 @@ ghost use Rattle.brick_spec.specs.Layer.{Layer, ip4_layer, carries};
 ghost use Rattle.tcp_udp.specs.Datagrams.{IsDatagram};
 
 use brick_base::Proto;
-use eth_ip::{Eth, Ip4, header_fragment_offset, header_more_fragments, header_protocol, header_total};
+use eth_ip::{
+    Eth, Ip4, header_fragment_offset, header_more_fragments, header_protocol, header_total,
+};
 
 /// The IPv4 header of a frame and its payload.
 #[derive(Clone, Copy)]

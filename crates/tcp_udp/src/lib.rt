@@ -6,6 +6,7 @@
 #![tactic(auto)]
 
 mod datagram;
+mod laws;
 mod matching;
 mod tcp;
 mod tcp_header;
@@ -17,11 +18,18 @@ mod udp;
 mod udp_header;
 mod words;
 
+pub use laws::{parse_finds_layers, transport_edits_keep_right};
 pub use matching::Match;
 pub use tcp::Tcp;
-pub use tcp_header::{TcpMut, TcpView, set_tcp_destination_port, set_tcp_source_port, tcp_acknowledgement, tcp_address_changed, tcp_checksum, tcp_flags, tcp_sequence, tcp_window};
+pub use tcp_header::{
+    TcpMut, TcpView, set_tcp_destination_port, set_tcp_source_port, tcp_acknowledgement,
+    tcp_address_changed, tcp_checksum, tcp_flags, tcp_sequence, tcp_window,
+};
 pub use transport::transport_ok;
 pub use tuple::Tuple;
 pub use udp::Udp;
-pub use udp_header::{UdpMut, UdpView, set_udp_destination_port, set_udp_source_port, udp_address_changed, udp_checksum, udp_total};
+pub use udp_header::{
+    UdpMut, UdpView, set_udp_destination_port, set_udp_source_port, udp_address_changed,
+    udp_checksum, udp_total,
+};
 pub use words::{destination_port, source_port};

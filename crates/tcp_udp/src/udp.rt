@@ -33,7 +33,11 @@ impl Proto for Udp {
         if !carries(outer, 17) || rest.len() < 8 {
             return None;
         }
-        if read_word(rest, 4) >= 8 { Some(8) } else { None }
+        if read_word(rest, 4) >= 8 {
+            Some(8)
+        } else {
+            None
+        }
     }
 
     fn extent(header: &[u8], room: usize) -> usize {

@@ -1,4 +1,4 @@
-use Rattle.std.proofs.Common.{◌∙◌, sym, ◌<◌, ◌^◌, arith}
+use Rattle.std.proofs.Common.{sym, ◌<◌, ◌^◌, arith}
 use Rattle.tcp_udp.proofs.Reading.{datagram_read}
 use Rattle.tcp_udp.proofs.datagram.read_datagram.Goals as goal
 

@@ -17,9 +17,9 @@ pub returns-then-payload-length : goal.returns-then-payload-length
 returns-then-payload-length c =
     let d = c.in_ok-datagram.datagram in
     elim c.then-payload-length.branch [
-      then-payload-length-via-then-payload-length w ↦ udp_long_read c.args.frame.now d.header.now d.payload.now d.is_cut c.length.result c.length-2.result c.in_ok-length.field-0 c.read_word-length.result c.in_ok-datagram.ensures
+      | then-payload-length-via-then-payload-length w ↦ udp_long_read c.args.frame.now d.header.now d.payload.now d.is_cut c.length.result c.length-2.result c.in_ok-length.field-0 c.read_word-length.result c.in_ok-datagram.ensures
           c.length.ensures (sym c.is_some.ensures ∙ c.if-is_some.false) c.length-2.ensures c.in_ok-length.was c.read_word-length.ensures w.if-payload-length.true
-    | then-payload-length-via-else-payload-length+then-read_word-eq0 w ↦ udp_plain_read c.args.frame.now d.header.now d.payload.now d.is_cut c.length.result c.length-2.result c.in_ok-length.field-0 w.read_word.result c.in_ok-datagram.ensures
+      | then-payload-length-via-else-payload-length+then-read_word-eq0 w ↦ udp_plain_read c.args.frame.now d.header.now d.payload.now d.is_cut c.length.result c.length-2.result c.in_ok-length.field-0 w.read_word.result c.in_ok-datagram.ensures
           c.length.ensures (sym c.is_some.ensures ∙ c.if-is_some.false) c.length-2.ensures c.in_ok-length.was w.read_word.ensures w.if-read_word-eq0.true
     ]
 
