@@ -8,7 +8,7 @@ use Rattle.brick_spec.specs.Header.{word_at}
 use Rattle.brick_spec.specs.Layer.{Layer, header_in, payload_in, segment_in, ethernet_length, ethernet_layer, ip4_length, ip4_extent, ip4_total, ip4_layer_in, ip4_layer, tcp_header_bytes, has_tcp, tcp_length, tcp_layer_in, udp_total, has_udp, udp_length, udp_layer_in, source_port, destination_port}
 use Rattle.brick_spec.specs.Tuple.{ports_at, transport_layer_in}
 use Rattle.brick_spec.specs.Transport.{is_tcp_right, is_udp_right, is_cut, is_too_long, is_unchecked, tcp_ok_at, udp_ok_at, transport_ok_in, transport_ok}
-use Rattle.eth_ip.specs.LayerLaws.{some_if, le_of_test, ip4_length_says, word_at-take}
+use Rattle.eth_ip.specs.LayerLaws.{some_if, le_of_test, ip4_length_says, ip4_length_even, word_at-take}
 use Rattle.eth_ip.proofs.FrameLayers.{ethernet_at, ethernet_payload, extent_is}
 use Rattle.tcp_udp.specs.Datagrams.{IsDatagram}
 use Rattle.tcp_udp.specs.LayerLaws.{has_udp_says}
@@ -55,6 +55,11 @@ datagram_read frame outer rest s n end total he ho hr hn hend ht small =
       cut_is = lt_same (length rest) total (length frame) (14 + ip4_total (header_in frame (place n))) (omega arith) (ap (λ k. 14 + k) (sym (ht ∙ ap ip4_total header)));
       long = omega arith;
       fits = omega arith;
+      even = let e = ip4_length_even outer rest n hn in omega arith;
+      starts = refl;
+      middle = omega arith;
+      end = let behind_header = length-drop n rest in omega (arith, extent, short, behind_header, end_is);
+      within = let behind_header = length-drop n rest in omega (arith, short, behind_header, room);
     }
 
 some_test : (b : Bool) (n : ℕ) → is_some (if b then Some n else None) ≡ b

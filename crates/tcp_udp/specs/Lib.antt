@@ -5,3 +5,4 @@ pub mod View
 pub mod PrefixView
 pub mod MatchView
 pub mod PacketLayers
+pub mod PlacesIn

@@ -1,0 +1,153 @@
+use crate::translate;
+use brick_base::{Class, Dir, Ends, Prefix, Raw, Reason};
+use flow_key::NatPlan;
+use packet_owner::{Buffer, Packet};
+use pcap_io::Entry;
+use std::process::Abort;
+use std::test::Fail;
+
+/// TCP from 10.0.0.1:1000 to 198.51.100.2:80, the first 64 bytes of a frame of 1,514.
+const CUT: [u8; 64] = [
+    0x02, 0x00, 0x00, 0x00, 0x00, 0x01, 0x02, 0x00, 0x00, 0x00, 0x00, 0x02, 0x08, 0x00, 0x45, 0x00,
+    0x05, 0xdc, 0x00, 0x00, 0x40, 0x00, 0x40, 0x06, 0x00, 0xe6, 0x0a, 0x00, 0x00, 0x01, 0xc6, 0x33,
+    0x64, 0x02, 0x03, 0xe8, 0x00, 0x50, 0x00, 0x00, 0x00, 0x01, 0x00, 0x00, 0x00, 0x00, 0x50, 0x10,
+    0xff, 0xff, 0x12, 0x34, 0x00, 0x00, 0, 0, 0, 0, 0, 0, 0, 0, 0, 0,
+];
+
+/// UDP from 10.0.0.1:1000 to 10.1.2.3:53 with the payload `ping`.
+const PING: [u8; 46] = [
+    0x02, 0x00, 0x00, 0x00, 0x00, 0x01, 0x02, 0x00, 0x00, 0x00, 0x00, 0x02, 0x08, 0x00, 0x45, 0x00,
+    0x00, 0x20, 0x00, 0x00, 0x40, 0x00, 0x40, 0x11, 0x24, 0xc9, 0x0a, 0x00, 0x00, 0x01, 0x0a, 0x01,
+    0x02, 0x03, 0x03, 0xe8, 0x00, 0x35, 0x00, 0x0c, 0x06, 0xe4, 0x70, 0x69, 0x6e, 0x67,
+];
+
+/// From 10.0.0.0/8 to 203.0.113.1, with two ports from 40,000 on.
+fn plan() -> Option<NatPlan> {
+    NatPlan::new(Prefix::new(0x0a000000, 8)?, 0xcb007101, 40000, 2)
+}
+
+/// A class of the flow from 10.0.0.1:1000 to 198.51.100.2:80.
+fn class(dir: Dir, rank: Option<u32>) -> Class {
+    Class {
+        flow: 0,
+        dir,
+        rank,
+        hash: 0,
+        first: Ends {
+            src: 0x0a000001,
+            sport: 1000,
+            dst: 0xc6336402,
+            dport: 80,
+        },
+        other: false,
+    }
+}
+
+/// The frame in a packet of record 7, in a buffer of slot 5.
+fn packet(rt: &impl Abort, buffer: Buffer, frame: &[u8]) -> Packet<Raw> {
+    assert!(rt; frame.len() <= buffer.room() as usize);
+    let entry = Entry {
+        seconds: 1,
+        fraction: 2,
+        original: 1514,
+        frame,
+    };
+    Packet::fill(buffer, 7, entry)
+}
+
+#[test]
+fn the_source_of_a_cut_frame(rt: HostRuntime) -> Result<(), Fail> {
+    let Some(plan) = plan() else {
+        assert!(rt; false, "there is a plan");
+        return Ok(());
+    };
+    let cut = packet(&rt, Buffer::new(rt.alloc(), 5, 64)?, &CUT);
+    let Ok(out) = translate(&plan, &class(Dir::Forward, Some(0)), cut) else {
+        assert!(rt; false, "there is a port");
+        return Ok(());
+    };
+    let mut wanted = CUT;
+    wanted[24..30].copy_from_slice(&[0xce, 0xe4, 0xcb, 0x00, 0x71, 0x01]);
+    wanted[34..36].copy_from_slice(&[0x9c, 0x40]);
+    wanted[50..52].copy_from_slice(&[0x47, 0xda]);
+    assert_eq!(rt; out.payload(), wanted.as_slice());
+    assert_eq!(rt; (out.slot(), out.key()), (5, (7, 0)));
+    assert_eq!(rt; out.item(rt.alloc())?.original, 1514);
+
+    // There are ports of rank 0 and 1. The packet comes back as it was.
+    match translate(&plan, &class(Dir::Forward, Some(2)), out) {
+        Ok(_) => assert!(rt; false, "there is no port"),
+        Err((packet, reason)) => {
+            assert_eq!(rt; reason, Reason::NatFull);
+            assert_eq!(rt; packet.payload(), wanted.as_slice());
+        }
+    }
+    Ok(())
+}
+
+/// A frame, after a translation that has a port.
+fn translated(rt: &impl Abort, buffer: Buffer, class: &Class, frame: &[u8]) -> Packet<Raw> {
+    match plan() {
+        None => panic!(rt; "there is a plan"),
+        Some(plan) => match translate(&plan, class, packet(rt, buffer, frame)) {
+            Ok(packet) => packet,
+            Err(_) => panic!(rt; "there is a port"),
+        },
+    }
+}
+
+#[test]
+fn udp_checksums(rt: HostRuntime) -> Result<(), Fail> {
+    let forward = class(Dir::Forward, Some(0));
+    let out = translated(&rt, Buffer::new(rt.alloc(), 0, 64)?, &forward, &PING);
+    let mut wanted = PING;
+    wanted[24..30].copy_from_slice(&[0xf2, 0xc7, 0xcb, 0x00, 0x71, 0x01]);
+    wanted[34..36].copy_from_slice(&[0x9c, 0x40]);
+    wanted[40..42].copy_from_slice(&[0x3c, 0x8a]);
+    assert_eq!(rt; out.payload(), wanted.as_slice());
+
+    // A field of 0 stays 0.
+    let mut frame = PING;
+    frame[40..42].copy_from_slice(&[0, 0]);
+    let out = translated(&rt, out.into_buffer(), &forward, &frame);
+    wanted[40..42].copy_from_slice(&[0, 0]);
+    assert_eq!(rt; out.payload(), wanted.as_slice());
+
+    // A result of 0 is stored as ffff.
+    let mut frame = PING;
+    frame[40..46].copy_from_slice(&[0xca, 0x59, 0, 0, 0x1b, 0x5b]);
+    let out = translated(&rt, out.into_buffer(), &forward, &frame);
+    wanted[40..46].copy_from_slice(&[0xff, 0xff, 0, 0, 0x1b, 0x5b]);
+    assert_eq!(rt; out.payload(), wanted.as_slice());
+    Ok(())
+}
+
+#[test]
+fn what_comes_back_and_what_has_no_ports(rt: HostRuntime) -> Result<(), Fail> {
+    // From 198.51.100.2:80 to 203.0.113.1:40000: the destination becomes 10.0.0.1:1000.
+    let mut frame = CUT;
+    frame[26..30].copy_from_slice(&[0xc6, 0x33, 0x64, 0x02]);
+    frame[30..34].copy_from_slice(&[0xcb, 0x00, 0x71, 0x01]);
+    frame[34..38].copy_from_slice(&[0x00, 0x50, 0x9c, 0x40]);
+    let reversed = class(Dir::Reversed, Some(0));
+    let out = translated(&rt, Buffer::new(rt.alloc(), 0, 64)?, &reversed, &frame);
+    assert!(rt; out.payload().len() == 64);
+    assert_eq!(rt;
+        &out.payload()[26..38],
+        [0xc6, 0x33, 0x64, 0x02, 10, 0, 0, 1, 0, 80, 0x03, 0xe8].as_slice()
+    );
+
+    // ICMP, a fragment, and a flow without a rank
+    let mut icmp = PING;
+    icmp[23] = 1;
+    let mut fragment = PING;
+    fragment[20] = 0x20;
+    let forward = class(Dir::Forward, Some(1));
+    let out = translated(&rt, out.into_buffer(), &forward, &icmp);
+    assert_eq!(rt; out.payload(), icmp.as_slice());
+    let out = translated(&rt, out.into_buffer(), &forward, &fragment);
+    assert_eq!(rt; out.payload(), fragment.as_slice());
+    let out = translated(&rt, out.into_buffer(), &class(Dir::Forward, None), &PING);
+    assert_eq!(rt; out.payload(), PING.as_slice());
+    Ok(())
+}
