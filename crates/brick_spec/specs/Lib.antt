@@ -31,3 +31,4 @@ pub mod Firewall
 pub mod AcceptedWords
 pub mod GroupOutput
 pub mod AddressTranslation
+pub mod PacketizedWindow
