@@ -1,4 +1,4 @@
-use Rattle.std.proofs.Common.{Err, inr, map, length, ◌≤◌, sym, ap, ◌∙◌, subst, arith}
+use Rattle.std.proofs.Common.{inr, map, length, ◌≤◌, sym, ap, ◌∙◌, subst, arith}
 use Rattle.std.proofs.lemmas.Bool.{false≢true}
 use Rattle.brick_spec.specs.Capture.{IsReadable}
 use Rattle.brick_spec.specs.CaptureFault.{Stands}
