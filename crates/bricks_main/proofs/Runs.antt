@@ -1,5 +1,5 @@
 -- What the parts of a run leave.
-use Rattle.std.proofs.Common.{◌≡◌, ◌≢◌, ◌⊎◌, inl, inr, ℕ, ◌≤◌, ◌<◌, List, [], ◌∷◌, ◌++◌, length, refl, sym, ◌∙◌, ap, subst, arith, append_assoc, length-append, Option, Some, None, IsSomeAnd}
+use Rattle.std.proofs.Common.{◌≡◌, ◌≢◌, inl, inr, ℕ, ◌≤◌, ◌<◌, List, [], ◌∷◌, ◌++◌, length, refl, sym, ◌∙◌, ap, subst, arith, append_assoc, length-append, Option, Some, None, IsSomeAnd}
 use Rattle.std.specs.Prelude.{codes, IsTrue, nat_le, true}
 use Rattle.std.specs.List.{AllByRecursion}
 use Rattle.std.proofs.lemmas.List.{append-nil}
@@ -114,10 +114,6 @@ some_is o x P e p = subst (λ (q : Option _). IsSomeAnd q P) (sym e) p
 pub some_map : {X : Type 0} (o : Option X) (P Q : X → Type 0) → ((x : X) → P x → Q x) → IsSomeAnd o P → IsSomeAnd o Q
 some_map None P Q f h = h
 some_map (Some x) P Q f h = f x h
-
-pub some_both : {X : Type 0} (o : Option X) (P Q : X → Type 0) → ((x : X) → P x → Q x → ⊥) → IsSomeAnd o P → IsSomeAnd o Q → ⊥
-some_both None P Q f h k = absurd h
-some_both (Some x) P Q f h k = f x h k
 
 -- a file that is longer than a chain file is refused
 pub long_refused : (chains out : List ℕ) (files : Files) → IsSomeAnd (files chains) (λ content. 1048576 < length content) → IsRefused chains out files

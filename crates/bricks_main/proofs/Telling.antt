@@ -1,9 +1,9 @@
 -- What the sink is told, and the status that follows.
-use Rattle.std.proofs.Common.{◌≡◌, ◌⊎◌, inl, inr, ℕ, ◌≤◌, ◌<◌, Bool, true, false, cond, List, [], ◌++◌, sym, ◌∙◌, ap, subst, arith}
+use Rattle.std.proofs.Common.{◌≡◌, inl, inr, ℕ, ◌<◌, Bool, true, false, cond, List, [], ◌++◌, sym, ◌∙◌, ap, subst, arith}
 use Rattle.std.specs.Prelude.{if◌then◌else◌, ◌==◌}
 use Rattle.std.specs.List.{list_all}
 use Rattle.std.proofs.lemmas.List.{append-nil}
-use Rattle.brick_spec.specs.Report.{Line, Outcome, Usage, ChainsRefused, StoreFault, NoMemory, Reported, is_done, outcome_text, status_of, HasReport}
+use Rattle.brick_spec.specs.Report.{Outcome, Usage, ChainsRefused, StoreFault, NoMemory, Reported, is_done, outcome_text, status_of, HasReport}
 use Rattle.brick_spec.specs.Cause.{Rose}
 use Rattle.brick_spec.specs.Files.{AppendsFront}
 use Rattle.brick_spec.specs.Promise.{Shown}

@@ -1,6 +1,5 @@
 -- What is promised of a tenant, from what its run left and why it failed.
 use Rattle.std.proofs.Common.{◌≡◌, ◌⊎◌, inl, inr, ℕ, ◌≤◌, ◌<◌, List, [], ◌∷◌, length, refl, sym, ◌∙◌, ap, subst, arith, Option, Some, None, IsSomeAnd}
-use Rattle.std.specs.List.{AllByRecursion}
 use Rattle.brick_spec.specs.Capture.{Contents, IsReadable}
 use Rattle.brick_spec.specs.CaptureFault.{CaptureFault, Stands}
 use Rattle.brick_spec.specs.Cause.{reading_account, writing_account}
@@ -9,7 +8,7 @@ use Rattle.brick_spec.specs.Files.{Files, AllStay}
 use Rattle.brick_spec.specs.Report.{TenantEnd, Done, TooLong, BadCapture, ReadFault, WriteFault, Line}
 use Rattle.brick_spec.specs.Tenant.{Tally, tally_of}
 use Rattle.brick_spec.specs.Texts.{OthersStayOf, SomeRose}
-use Rattle.brick_spec.specs.Promise.{Held, CountRose, Says, Captured, IsTooLong, IsBad, HasWritten, NoneTouched, HasStopped, DonePromise, TooLongPromise, BadCapturePromise, NoFilesPromise, TenantPromises, tenant_line, IsReportOf}
+use Rattle.brick_spec.specs.Promise.{Held, CountRose, Says, Captured, IsTooLong, IsBad, HasWritten, NoneTouched, HasStopped, TenantPromises, tenant_line, IsReportOf}
 use Rattle.pcap_io.proofs.Captures.{readable_unique}
 use Rattle.pcap_io.proofs.Faults.{whole_no_fault, one_fault}
 use Rattle.bricks_main.specs.Run.{TenantLeaves, TenantCause}

@@ -1,7 +1,5 @@
 -- Files written one after another.
-use Rattle.std.proofs.Common.{◌≡◌, ◌≢◌, ◌⊎◌, inl, inr, ℕ, ◌≤◌, List, [], ◌∷◌, map, sym, ◌∙◌, arith}
-use Rattle.std.proofs.Common.{Result, Ok, Err, IsOk, IsErr}
-use Rattle.std.proofs.lemmas.Bool.{false≢true}
+use Rattle.std.proofs.Common.{◌≡◌, ◌≢◌, inl, inr, ℕ, ◌≤◌, List, [], ◌∷◌, map, sym, ◌∙◌, arith}
 use Rattle.std.specs.List.{AllByRecursion}
 use Rattle.brick_spec.specs.Files.{Files, FaultCounts, OthersStay}
 use Rattle.brick_spec.specs.Texts.{Text, Holds, MayHold, Untouched, StopsWithin, WritesTexts, AreDistinct, SomeRose}
@@ -59,8 +57,3 @@ pub some_then : (account : ℕ) (ts : List (List ℕ)) (before mid now : FaultCo
 some_then account [] before mid now later r = r
 some_then account (t ∷ ts) before mid now later (inl r) = inl (omega (arith, later account t))
 some_then account (t ∷ ts) before mid now later (inr r) = inr (some_then account ts before mid now later r)
-
--- an error is no success
-pub no_ok : {T E : Type 0} (r : Result T E) → IsErr r → IsOk r → ⊥
-no_ok (Ok x) err ok = absurd (false≢true err)
-no_ok (Err e) err ok = absurd (false≢true ok)

@@ -1,5 +1,5 @@
 //! Why a capture is refused, as it is told.
-ghost use Rattle.std.specs.Prelude.{◌≡◌, ◌++◌, List, ℕ, IfOk, OnOk, string_bytes};
+ghost use Rattle.std.specs.Prelude.{◌≡◌, ◌++◌, List, ℕ, IfOk, OnOk, OnErr, string_bytes};
 ghost use Rattle.brick_spec.specs.CaptureFault.{Stands};
 ghost use Rattle.brick_spec.specs.Report as spec;
 ghost use Rattle.pcap_io.specs.View.{StandsIn};
@@ -22,7 +22,8 @@ pub enum Refusal {
 
 /// The fault that a reader of captures answers, where it is not want of memory.
 pub fn refusal_of(fault: CaptureFault) -> Result<Refusal, NoMemory>
-    ensures { IfOk result (λ refusal. (bytes : List ℕ) → StandsIn bytes fault → Stands bytes (refusal_view refusal)) }
+    ensures means { IfOk result (λ refusal. (bytes : List ℕ) → StandsIn bytes fault → Stands bytes (refusal_view refusal)) }
+    ensures memory { OnErr result (fault ≡ CaptureFault.NoMemory) }
 {
     match fault {
         CaptureFault::ShortHeader { len } => Ok(Refusal::ShortHeader { len }),

@@ -41,6 +41,12 @@ const FOREIGN: [u8; 40] = [
     0x00, 0x00, 0x00, 0x2e, 0x00, 0x00, 0x00, 0x2e,
 ];
 
+/// What is written before the records of a capture with nanoseconds.
+const NANO_HEADER: [u8; 24] = [
+    0x4d, 0x3c, 0xb2, 0xa1, 0x02, 0x00, 0x04, 0x00, 0x00, 0x00, 0x00, 0x00, 0x00, 0x00, 0x00, 0x00,
+    0x00, 0x00, 0x04, 0x00, 0x01, 0x00, 0x00, 0x00,
+];
+
 const UDP_CHAINS: &str =
     "version = 1\n[[tenant]]\nname = \"a\"\ncapture = \"a.pcap\"\nstages = [{ stage = \"ttl\" }, { stage = \"only\", match = { proto = \"udp\" } }]\n[[tenant.group]]\nname = \"g\"\n";
 
@@ -200,11 +206,87 @@ fn the_foreign_resolution_capture(rt: HostRuntime) -> Result<(), Fail> {
         Vec::new(alloc),
         Vec::new(alloc),
     )?;
+    assert_eq!(rt; run.status, 0);
+    assert!(rt; run.told == done_line(alloc, 1, 1, 0, 0, 1)?.into_bytes());
+    assert!(rt;
+        run.output
+            == Some(joined(
+                alloc,
+                &[NANO_HEADER.as_slice(), HEAD.as_slice(), LOWERED.as_slice()]
+            )?)
+    );
+    Ok(())
+}
+
+/// Runs a capture that is not read: the line is told under status 1, and no file is made.
+fn refused(rt: &impl Abort, alloc: Global, capture: &[u8], line: &str) -> Result<(), Fail> {
+    let run = run(
+        alloc,
+        INLINE.as_slice(),
+        UDP_CHAINS,
+        capture,
+        Vec::new(alloc),
+        Vec::new(alloc),
+    )?;
     assert_eq!(rt; run.status, 1);
-    assert!(rt; run.told == b"a bad-capture 0 FirstForm\n".to_vec(alloc)?);
+    assert!(rt; run.told == line.as_bytes().to_vec(alloc)?, "{line}");
     assert!(rt; run.output.is_none());
     assert!(rt; run.refused.is_none());
     Ok(())
+}
+
+/// The first bytes of three frames and a record that is cut.
+fn cut_record(alloc: Global) -> Result<Vec<u8>, Fail> {
+    let mut capture = HEADER.to_vec(alloc)?;
+    for _ in 0..3 {
+        capture.extend_from_slice(HEAD.as_slice())?;
+        capture.extend_from_slice(FRAME.as_slice())?;
+    }
+    capture.extend_from_slice(&[1, 0, 0, 0, 2, 0, 0, 0, 46, 0])?;
+    Ok(capture)
+}
+
+#[test]
+fn captures_that_are_not_whole(rt: HostRuntime) -> Result<(), Fail> {
+    let alloc = rt.alloc();
+    let long = [1, 0, 0, 0, 2, 0, 0, 0, 1, 0, 4, 0, 1, 0, 4, 0];
+    let mut version = HEADER;
+    version[6] = 3;
+    let mut link = HEADER;
+    link[20] = 105;
+    let mut magic = HEADER;
+    magic[3] = 0x0f;
+    let table: [(Vec<u8>, &str); 6] = [
+        (Vec::new(alloc), "a bad-capture 1 ShortHeader len=0\n"),
+        (
+            magic.to_vec(alloc)?,
+            "a bad-capture 2 Magic word=d4c3b20f\n",
+        ),
+        (
+            version.to_vec(alloc)?,
+            "a bad-capture 3 Version major=2 minor=3\n",
+        ),
+        (link.to_vec(alloc)?, "a bad-capture 4 Link word=105\n"),
+        (
+            cut_record(alloc)?,
+            "a bad-capture 5 CutRecord number=3 at=210\n",
+        ),
+        (
+            joined(alloc, &[HEADER.as_slice(), long.as_slice()])?,
+            "a bad-capture 6 LongRecord number=0 len=262145\n",
+        ),
+    ];
+    for (capture, line) in &table {
+        refused(&rt, alloc, capture, line)?;
+    }
+    Ok(())
+}
+
+#[test]
+fn a_capture_that_is_too_long(rt: HostRuntime) -> Result<(), Fail> {
+    let alloc = rt.alloc();
+    let capture = vec![in alloc; 0u8; 33_554_433]?;
+    refused(&rt, alloc, &capture, "a too-long\n")
 }
 
 #[test]
@@ -253,51 +335,88 @@ fn chain_files_that_are_refused(rt: HostRuntime) -> Result<(), Fail> {
     Ok(())
 }
 
-/// Whether the file is missing or holds a prefix of the text.
-fn may_hold(file: &Option<Vec<u8>>, text: &[u8]) -> bool {
-    match file {
-        None => true,
-        Some(bytes) => text.starts_with(bytes),
-    }
+/// Runs a capture, whose call of the store of this number fails.
+fn failing(alloc: Global, capture: &[u8], call: u32) -> Result<Ended, Fail> {
+    run(
+        alloc,
+        INLINE.as_slice(),
+        UDP_CHAINS,
+        capture,
+        vec![in alloc; call]?,
+        Vec::new(alloc),
+    )
 }
 
 #[test]
 fn each_call_of_the_store_failing_in_turn(rt: HostRuntime) -> Result<(), Fail> {
     let alloc = rt.alloc();
+    let table = [
+        (4, "store-fault\n"),
+        (4, "store-fault\n"),
+        (1, "a read-fault\n"),
+        (1, "a read-fault\n"),
+        (1, "a write-fault\n"),
+        (1, "a write-fault\n"),
+        (1, "a write-fault\n"),
+    ];
     let capture = one_frame(alloc)?;
+    let mut call = 0u32;
+    for (status, told) in table {
+        let run = failing(alloc, &capture, call)?;
+        assert_eq!(rt; run.status, status);
+        assert!(rt; run.told == told.as_bytes().to_vec(alloc)?, "call {call}");
+        assert_eq!(rt; run.output.is_some(), call > 4);
+        assert!(rt; run.refused.is_none());
+        call = call.saturating_add(1);
+    }
+    assert_eq!(rt; failing(alloc, &capture, call)?.status, 0);
+    Ok(())
+}
+
+#[test]
+fn the_half_written_output(rt: HostRuntime) -> Result<(), Fail> {
+    let alloc = rt.alloc();
     let whole = joined(
         alloc,
         &[HEADER.as_slice(), HEAD.as_slice(), LOWERED.as_slice()],
     )?;
-    for call in 0..7u32 {
-        let run = run(
-            alloc,
-            INLINE.as_slice(),
-            UDP_CHAINS,
-            &capture,
-            vec![in alloc; call]?,
-            Vec::new(alloc),
-        )?;
-        assert_eq!(rt; run.status, 4);
-        assert!(rt; run.told == b"store-fault\n".to_vec(alloc)?);
-        assert!(rt; may_hold(&run.output, &whole));
-        assert!(rt; run.refused.is_none());
-        if call < 5 {
-            assert!(rt; run.output.is_none());
-        }
-        if call == 5 {
-            assert!(rt; run.output == Some(joined(alloc, &[whole.get(..43).ok_or("short")?])?));
+    let half = Some(joined(alloc, &[whole.get(..43).ok_or("short")?])?);
+    let capture = one_frame(alloc)?;
+    let mut found = 0;
+    for call in 0..8u32 {
+        let run = failing(alloc, &capture, call)?;
+        if run.output == half {
+            assert_eq!(rt; run.status, 1);
+            assert!(rt; run.told == b"a write-fault\n".to_vec(alloc)?);
+            assert!(rt; run.refused.is_none());
+            found = 1;
         }
     }
-    let run = run(
-        alloc,
-        INLINE.as_slice(),
-        UDP_CHAINS,
-        &capture,
-        vec![in alloc; 7]?,
-        Vec::new(alloc),
-    )?;
-    assert_eq!(rt; run.status, 0);
+    assert_eq!(rt; found, 1);
+    Ok(())
+}
+
+#[test]
+fn long_texts_are_appended_in_pieces(rt: HostRuntime) -> Result<(), Fail> {
+    let alloc = rt.alloc();
+    // 17 frames of 65,600 bytes give an output of 1,115,496 bytes: a piece of 1,048,576, and one of 66,920.
+    let frame = vec![in alloc; 0u8; 65_600]?;
+    let length = 65_600u32.to_le_bytes();
+    let mut capture = HEADER.to_vec(alloc)?;
+    for _ in 0..17 {
+        capture.extend_from_slice(&[0; 8])?;
+        capture.extend_from_slice(length.as_slice())?;
+        capture.extend_from_slice(length.as_slice())?;
+        capture.extend_from_slice(&frame)?;
+    }
+    let mut lengths = Vec::new(alloc);
+    for call in 0..26u32 {
+        let run = failing(alloc, &capture, call)?;
+        if let Some(output) = &run.output {
+            lengths.push(output.len())?;
+        }
+    }
+    assert!(rt; lengths.starts_with(&[524_288, 1_082_036, 1_115_496]));
     Ok(())
 }
 

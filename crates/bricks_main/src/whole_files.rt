@@ -133,7 +133,7 @@ fn write_whole<S: Store>(
     Ok(())
 }
 
-/// Writes each file, one after another, until one fails.
+/// Writes each file, one after another, until one fails. Those behind it are not touched.
 pub fn write_texts<S: Store>(store: &mut S, account: u32, texts: &[Text]) -> Result<(), IoFault>
     requires account { IsWriting account }
     requires distinct { AreDistinct (map text_view texts.now) }
@@ -144,6 +144,8 @@ pub fn write_texts<S: Store>(store: &mut S, account: u32, texts: &[Text]) -> Res
     let Some((first, rest)) = texts.split_first() else {
         return Ok(());
     };
-    write_whole(store, account, first.name.as_str(), &first.bytes)?;
-    write_texts(store, account, rest)
+    match write_whole(store, account, first.name.as_str(), &first.bytes) {
+        Ok(()) => write_texts(store, account, rest),
+        Err(fault) => Err(fault),
+    }
 }

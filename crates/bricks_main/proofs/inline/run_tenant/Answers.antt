@@ -1,4 +1,4 @@
-use Rattle.std.proofs.Common.{Err, inr, map, length, ◌≤◌, sym, ap, ◌∙◌, subst, arith}
+use Rattle.std.proofs.Common.{inr, map, length, ◌≤◌, sym, ap, ◌∙◌, subst, arith}
 use Rattle.std.proofs.lemmas.Bool.{false≢true}
 use Rattle.brick_spec.specs.Capture.{IsReadable}
 use Rattle.brick_spec.specs.CaptureFault.{Stands}
@@ -15,7 +15,7 @@ returns-in-Err g c =
     let short : length c.in-Ok.bytes.items ≤ 33554432 = omega (arith, c.in-Ok.ensures.within) in (
       λ tells. (
         some_is (g.S.Store.file c.args.store.now (chain_view c.args.chain.now).capture) c.in-Ok.bytes.items (λ bytes. (length bytes ≤ 33554432) × Stands bytes refusal)
-            (ap (g.S.Store.file c.args.store.now) (sym c.as_str.ensures.value) ∙ c.in-Ok.ensures.whole tells) (short, c.in_ok-refusal_of-in-Err.ensures c.in-Ok.bytes.items c.in-Err.ensures.fault),
+            (ap (g.S.Store.file c.args.store.now) (sym c.as_str.ensures.value) ∙ c.in-Ok.ensures.whole tells) (short, c.in_ok-refusal_of-in-Err.ensures.means c.in-Ok.bytes.items c.in-Err.ensures.fault),
         c.in-Ok.ensures.held tells,
       ),
       tt,

@@ -1,4 +1,4 @@
-use Rattle.std.proofs.Common.{◌≡◌, ◌<◌, ◌≤◌, length, map, ap, ◌∙◌, subst}
+use Rattle.std.proofs.Common.{◌<◌, ◌≤◌, length, map, ap, ◌∙◌, subst}
 use Rattle.pcap_io.specs.View.{item_view}
 use Rattle.brick_base.specs.Reason.{reason_view}
 use Rattle.bricks_main.specs.View.{chain_view}

@@ -1,28 +1,29 @@
 use Rattle.std.proofs.Common.{◌≡◌, ◌∷◌, List, map, inr, rules, subst, arith}
+use Rattle.std.proofs.lemmas.Bool.{false≢true}
 use Rattle.brick_spec.specs.Texts.{AreDistinct}
 use Rattle.bricks_main.specs.WholeFiles.{text_view}
-use Rattle.bricks_main.proofs.TextLists.{writes_then, writes_stopped, some_then, no_ok}
+use Rattle.bricks_main.proofs.TextLists.{writes_then, writes_stopped, some_then}
 use Rattle.bricks_main.proofs.whole_files.+write_texts.Goals as goal
 
-pub returns-in_err-write_whole-clause-files : goal.returns-in_err-write_whole-clause-files
-returns-in_err-write_whole-clause-files g t c = λ tells.
+pub returns-in-Err-clause-files : goal.returns-in-Err-clause-files
+returns-in-Err-clause-files g t c = λ tells.
     let is : c.args.texts.now ≡ c.in-Some.first.now ∷ c.in-Some.rest.now = search rules in
     let distinct = subst (λ (ts : List _). AreDistinct (map text_view ts)) is c.requires.distinct in
     rw is (writes_stopped _ _ (text_view c.in-Some.first.now) (map text_view c.in-Some.rest.now) (g.S.Store.file c.args.store.now) (g.S.Store.file c.write_whole.new.store)
-    (no_ok c.from_residual.result c.from_residual.ensures.0)
+    false≢true
     (λ failed. rw (← c.as_str.ensures.value) (c.write_whole.ensures.cause.cause (search rules))) distinct
     (rw (← c.as_str.ensures.value, ← c.deref.ensures.value) (c.write_whole.ensures.at_most tells)) (rw (← c.as_str.ensures.value) (c.write_whole.ensures.others tells)))
 
-pub returns-clause-files : goal.returns-clause-files
-returns-clause-files g t c = λ tells.
+pub returns-in-Ok-clause-files : goal.returns-in-Ok-clause-files
+returns-in-Ok-clause-files g t c = λ tells.
     let is : c.args.texts.now ≡ c.in-Some.first.now ∷ c.in-Some.rest.now = search rules in
     let distinct = subst (λ (ts : List _). AreDistinct (map text_view ts)) is c.requires.distinct in
-    rw is (writes_then _ _ _ (λ u rose failed. omega (arith, rose failed, c.in_ok-write_whole.ensures.cause.later c.args.account u.name)) (text_view c.in-Some.first.now) (map text_view c.in-Some.rest.now) (g.S.Store.file c.args.store.now) (g.S.Store.file c.write_whole.new.store) (g.S.Store.file c.write_texts.new.store)
+    rw is (writes_then _ _ _ (λ u rose failed. omega (arith, rose failed, c.in-Ok.ensures.cause.later c.args.account u.name)) (text_view c.in-Some.first.now) (map text_view c.in-Some.rest.now) (g.S.Store.file c.args.store.now) (g.S.Store.file c.write_whole.new.store) (g.S.Store.file c.write_texts.new.store)
     distinct
-    (rw (← c.as_str.ensures.value, ← c.deref.ensures.value) (c.in_ok-write_whole.ensures.ok tells)) (rw (← c.as_str.ensures.value) (c.in_ok-write_whole.ensures.others tells)) (c.write_texts.ensures.files tells))
+    (rw (← c.as_str.ensures.value, ← c.deref.ensures.value) (c.in-Ok.ensures.ok tells)) (rw (← c.as_str.ensures.value) (c.in-Ok.ensures.others tells)) (c.write_texts.ensures.files tells))
 
-pub returns-clause-cause : goal.returns-clause-cause
-returns-clause-cause g t c = λ failed.
+pub returns-in-Ok-clause-cause : goal.returns-in-Ok-clause-cause
+returns-in-Ok-clause-cause g t c = λ failed.
     let is : c.args.texts.now ≡ c.in-Some.first.now ∷ c.in-Some.rest.now = search rules in
     rw is (inr (some_then c.args.account (map (λ t. t.name) (map text_view c.in-Some.rest.now)) (g.S.Store.faults c.args.store.now) (g.S.Store.faults c.write_whole.new.store) (g.S.Store.faults c.write_texts.new.store)
-    c.in_ok-write_whole.ensures.cause.later (c.write_texts.ensures.cause failed)))
+    c.in-Ok.ensures.cause.later (c.write_texts.ensures.cause failed)))
