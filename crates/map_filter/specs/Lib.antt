@@ -1,0 +1,3 @@
+pub mod Datagram
+pub mod Handled
+pub mod Stages
