@@ -88,8 +88,8 @@ overwritten_header frame ws l says same =
     let e₁ = length-append (take l.start frame) (ws ++ drop l.middle frame) in
     let e₂ = length-append ws (drop l.middle frame) in
     ap (take (length frame)) whole ∙ take_all (length frame) (with_header frame l ws) (omega arith) where
-  drop_twice : (n m k : ℕ) (xs : List ℕ) → k ≡ m + n → drop n (drop m xs) ≡ drop k xs
-  drop_twice n m k xs e = drop-drop n m xs ∙ ap (λ j. drop j xs) (sym e)
+      drop_twice : (n m k : ℕ) (xs : List ℕ) → k ≡ m + n → drop n (drop m xs) ≡ drop k xs
+      drop_twice n m k xs e = drop-drop n m xs ∙ ap (λ j. drop j xs) (sym e)
 
 -- CLOSED AGAIN
 

@@ -33,3 +33,12 @@ ttl_lowered p q q' r t reads long is more e close =
     if_not (nat_le (ttl_of (header_in p.frame l)) 1) (Err Ttl) _ (more_than_one (ttl_of (header_in p.frame l)) (omega arith)) ∙ ap (λ (n : ℕ). Ok (with_item_header i l (with_ttl (header_in p.frame l) (n - 1)))) (sym ttl) in
     kept_edited p q q' r (with_ttl (header_of q) (t - 1)) (ttl_at i) reads (length-ip4_edited (header_of q) 8 _ (omega arith) (omega arith)) e close
     (made ∙ ap (λ (h : List ℕ). Ok (with_item_header i l (with_ttl h (t - 1)))) (sym head))
+
+-- a type of service becomes another
+pub tos_changed : (p q q' r : PacketModel) (value : ℕ) → ReadsIp4 p q → 20 ≤ length (header_of q)
+    → q' ≡ with_bytes q (here_of q).start (with_tos (header_of q) value) → r ≡ record q' { layers = drop 2 q'.layers } → Keeps (tos_stage value) p r
+tos_changed p q q' r value reads long e close =
+    let l : Layer = reads.layer in
+    let i = packet_item p in
+    kept_edited p q q' r (with_tos (header_of q) value) (λ l. Ok (with_item_header i l (with_tos (header_in i.frame l) value))) reads (length-ip4_edited (header_of q) 0 _ (omega arith) (omega arith)) e close
+    (ap (λ (h : List ℕ). Ok (with_item_header i l (with_tos h value))) (sym (header_read p q reads)))

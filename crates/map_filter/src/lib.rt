@@ -6,6 +6,10 @@
 
 mod datagram;
 mod edits;
+mod only;
+#[cfg(test)]
+mod tests;
 
 pub use datagram::{close_ip4, read_ip4};
-pub use edits::TtlStage;
+pub use edits::{TosStage, TtlStage};
+pub use only::OnlyStage;
