@@ -75,15 +75,15 @@ module _ {O : Type 0} (stands : O → Flow → Came → Left → Type 0) (ready 
     stays_failed = λ never. cc;
   }
 
-  -- the packet is dropped, as it came
-  pub step_drops : (p : PacketModel) (r : Reason) (out out' : Outlet)
-      → Grows out.passed.items out out' (record { passed = []; dropped = record { reason = Some r; packet = p } ∷ []; consumed = [] }) → out'.spare ≡ out.spare
-      → Goes stands o o (flow_of class) (work_item class p ∷ []) None (left_by (work_item class p) (Err (reason_view r)))
+  -- the packet is dropped, as it is by then, in its own buffer
+  pub step_drops : (p q : PacketModel) (r : Reason) (out out' : Outlet) → buffer_of q ≡ buffer_of p
+      → Grows out.passed.items out out' (record { passed = []; dropped = record { reason = Some r; packet = q } ∷ []; consumed = [] }) → out'.spare ≡ out.spare
+      → Goes stands o o (flow_of class) (work_item class p ∷ []) None (record { passed = []; dropped = record { reason = reason_view r; item = packet_item q } ∷ [] })
       → Stepped stands ready (λ _. false) (λ _. 0) (λ _. 0) o o class p out out' (Ok tt)
-  step_drops p r out out' grows spare goes = record {
+  step_drops p q r out out' same grows spare goes = record {
     did = record {
-      added = record { passed = []; dropped = record { reason = Some r; packet = p } ∷ []; consumed = [] };
-      moves = record { slots = []; grows = grows; takes = none_taken out.spare out'.spare spare; few = lit≤ tt; buffers = one_buffer (buffer_of p) (buffer_of p) refl };
+      added = record { passed = []; dropped = record { reason = Some r; packet = q } ∷ []; consumed = [] };
+      moves = record { slots = []; grows = grows; takes = none_taken out.spare out'.spare spare; few = lit≤ tt; buffers = one_buffer (buffer_of q) (buffer_of p) same };
       goes = goes;
       others = λ other came left differs was. was;
       none_lost = refl;
@@ -141,7 +141,7 @@ module _ {O : Type 0} (makes : O → Flow → FlowItem → Result Item stage.Rea
   pub item_drops : (p : PacketModel) (r : Reason) (out out' : Outlet) → makes o (flow_of class) (work_item class p) ≡ Err (reason_view r)
       → Grows out.passed.items out out' (record { passed = []; dropped = record { reason = Some r; packet = p } ∷ []; consumed = [] }) → out'.spare ≡ out.spare
       → Stepped item_stands (λ _. Unit {0}) (λ _. false) (λ _. 0) (λ _. 0) o o class p out out' (Ok tt)
-  item_drops p r out out' made grows spare = step_drops item_stands (λ _. Unit {0}) o tt class p r out out' grows spare (item_goes p (Err (reason_view r)) made)
+  item_drops p r out out' made grows spare = step_drops item_stands (λ _. Unit {0}) o tt class p p r out out' refl grows spare (item_goes p (Err (reason_view r)) made)
 
   pub item_ends : (records : ℕ) (out : Outlet) → Finished item_stands (λ _. Unit {0}) (λ _. false) (λ _. 0) (λ _. 0) o o class records out out (Ok tt)
   item_ends records out = end_adds_nothing item_stands (λ _. Unit {0}) o tt class records out (λ came left still was. stage_rests (alone (makes o (flow_of class))) records came left still was)
@@ -174,6 +174,7 @@ row_of_then sa sb a b flow s ss first second came left (mid, rest, ha, hb, e, o)
     let m = first came mid ha in
     let r = second (record { items = mid.passed; ended = came.ended }) rest hb in
     let at : Left → Came = λ l. record { items = l.passed; ended = came.ended } in
-    let dropped : mid.dropped ++ (through_row ss (at mid)).dropped ≡ (through_row (s ∷ ss) came).dropped = λ i. (m i).dropped ++ (through_row ss (at (m i))).dropped in
-    (e ∙ (r.0 ∙ ap (λ (l : Left). (through_row ss (at l)).passed) m),
-    IsPermutation-trans _ _ _ o (IsPermutation-trans _ _ _ (IsPermutation-append_right mid.dropped _ _ r.1) (same_order _ _ dropped)))
+    let dropped : mid.dropped ++ (through_row ss (at mid)).dropped ≡ (through_row (s ∷ ss) came).dropped = λ i. (m i).dropped ++ (through_row ss (at (m i))).dropped in (
+      e ∙ (r.0 ∙ ap (λ (l : Left). (through_row ss (at l)).passed) m),
+      IsPermutation-trans _ _ _ o (IsPermutation-trans _ _ _ (IsPermutation-append_right mid.dropped _ _ r.1) (same_order _ _ dropped)),
+    )

@@ -16,6 +16,7 @@ use Rattle.batch_ops.specs.Outlet.{buffer_of}
 use Rattle.map_filter.specs.Datagram.{ReadsIp4}
 use Rattle.map_filter.specs.Handled.{Keeps}
 use Rattle.map_filter.specs.Stages.{with_item_header}
+use Rattle.map_filter.specs.Closures.{TransformedAt, Transformed}
 
 -- what mapping gives at a value comes from one
 mapped_from : (o : Option Layer) (f : Layer → PacketModel) (q : PacketModel) → option_map f o ≡ Some q → (l : Layer) × (o ≡ Some l) × (q ≡ f l)
@@ -132,3 +133,14 @@ pub kept_edited : (p q q' r : PacketModel) (ws : List ℕ) (does : Layer → Res
 kept_edited p q q' r ws does reads long e close made =
     let is = closed_edited p q q' r ws reads long e close in
     (does_at (packet_item p) does reads.layer reads.is ∙ (made ∙ ap (λ (x : PacketModel). Ok (packet_item x)) (sym is)), ap buffer_of is)
+
+-- a packet whose header was written over as a relation allows
+pub transformed_edited : (edits : List ℕ → List ℕ → Type 0) (p q q' r : PacketModel) (ws : List ℕ) → (reads : ReadsIp4 p q) → length ws ≡ length (header_of q) → edits (header_of q) ws → q' ≡ with_bytes q (here_of q).start ws → r ≡ record q' { layers = drop 2 q'.layers }
+    → Transformed edits (packet_item p) (packet_item r)
+transformed_edited edits p q q' r ws reads long made e close =
+    record { at = subst (λ (o : Option Layer). TransformedAt edits (packet_item p) (packet_item r) o) (sym reads.is)
+        (ws, subst (λ (h : List ℕ). edits h ws) (header_read p q reads) made, ap packet_item (closed_edited p q q' r ws reads long e close)) }
+
+-- a packet without the IPv4 layer stays
+pub transformed_none : (edits : List ℕ → List ℕ → Type 0) (p q : PacketModel) → q ≡ p → ip4_layer p.frame ≡ None → Transformed edits (packet_item p) (packet_item q)
+transformed_none edits p q same none = record { at = subst (λ (o : Option Layer). TransformedAt edits (packet_item p) (packet_item q) o) (sym none) (ap packet_item same) }

@@ -6,10 +6,16 @@
 
 mod datagram;
 mod edits;
+mod filter;
 mod only;
+mod row;
 #[cfg(test)]
 mod tests;
+mod transform;
 
 pub use datagram::{close_ip4, read_ip4};
 pub use edits::{TosStage, TtlStage};
+pub use filter::Filter;
 pub use only::OnlyStage;
+pub use row::AnyStage;
+pub use transform::Transform;
