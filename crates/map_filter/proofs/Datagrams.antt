@@ -1,20 +1,19 @@
 -- The layers of a packet that is read up to its IPv4 layer.
-use Rattle.std.proofs.Common.{◌≡◌, ℕ, ◌+◌, ◌-◌, ◌*◌, ◌%◌, ◌≤◌, List, [], ◌∷◌, ◌++◌, length, take, drop, Option, Some, None, Bool, true, false, nat_le, nat_eq, if◌then◌else◌, refl, ap, sym, subst, ◌∙◌, arith, length-take-le, length-drop, length-append}
-use Rattle.std.specs.Prelude.{option_map, option_and_then, Result, Ok, Err}
+use Rattle.std.proofs.Common.{◌≡◌, ℕ, ◌+◌, ◌-◌, ◌≤◌, List, [], ◌∷◌, ◌++◌, length, take, drop, Option, Some, None, refl, ap, sym, subst, ◌∙◌, arith, length-take-le, length-drop, length-append}
+use Rattle.std.specs.Prelude.{option_map, option_and_then, Result, Ok}
 use Rattle.std.proofs.lemmas.List.{take_all, drop-drop}
 use Rattle.brick_spec.specs.Item.{Item}
-use Rattle.brick_spec.specs.Edit.{with_header, ip4_edited, with_ttl, with_tos, ttl_of, protocol_of}
+use Rattle.brick_spec.specs.Edit.{with_header, ip4_edited}
 use Rattle.brick_spec.specs.Stage.{Reason, on_ip4}
 use Rattle.brick_spec.proofs.Words.{length-with_word}
 use Rattle.brick_spec.specs.Header.{with_word, word_at}
 use Rattle.brick_spec.specs.Checksum.{adjusted}
 use Rattle.brick_spec.specs.Layer.{Layer, header_in, payload_in, ethernet_length, ethernet_layer, ip4_length, ip4_extent, ip4_layer_in, ip4_layer}
 use Rattle.eth_ip.proofs.FrameLayers.{HasIp4Layer, ip4_layer_says}
-use Rattle.packet_owner.specs.Packet.{PacketModel, here_of, header_of, payload_of, innermost, next_layer, parsed, deparsed, overwritten, with_bytes, packet_item}
+use Rattle.packet_owner.specs.Packet.{PacketModel, here_of, header_of, payload_of, innermost, next_layer, parsed, overwritten, with_bytes, packet_item}
 use Rattle.packet_owner.proofs.Raw.{no_layers, raw_payload, raw_ethernet}
 use Rattle.batch_ops.specs.Outlet.{buffer_of}
 use Rattle.map_filter.specs.Datagram.{ReadsIp4}
-use Rattle.map_filter.specs.Handled.{Keeps}
 use Rattle.map_filter.specs.Stages.{with_item_header}
 use Rattle.map_filter.specs.Closures.{TransformedAt, Transformed}
 
@@ -138,8 +137,10 @@ kept_edited p q q' r ws does reads long e close made =
 pub transformed_edited : (edits : List ℕ → List ℕ → Type 0) (p q q' r : PacketModel) (ws : List ℕ) → (reads : ReadsIp4 p q) → length ws ≡ length (header_of q) → edits (header_of q) ws → q' ≡ with_bytes q (here_of q).start ws → r ≡ record q' { layers = drop 2 q'.layers }
     → Transformed edits (packet_item p) (packet_item r)
 transformed_edited edits p q q' r ws reads long made e close =
-    record { at = subst (λ (o : Option Layer). TransformedAt edits (packet_item p) (packet_item r) o) (sym reads.is)
-        (ws, subst (λ (h : List ℕ). edits h ws) (header_read p q reads) made, ap packet_item (closed_edited p q q' r ws reads long e close)) }
+    record {
+      at = subst (λ (o : Option Layer). TransformedAt edits (packet_item p) (packet_item r) o) (sym reads.is)
+          (ws, subst (λ (h : List ℕ). edits h ws) (header_read p q reads) made, ap packet_item (closed_edited p q q' r ws reads long e close));
+    }
 
 -- a packet without the IPv4 layer stays
 pub transformed_none : (edits : List ℕ → List ℕ → Type 0) (p q : PacketModel) → q ≡ p → ip4_layer p.frame ≡ None → Transformed edits (packet_item p) (packet_item q)

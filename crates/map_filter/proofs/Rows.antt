@@ -1,18 +1,27 @@
 -- Rows of stages.
-use Rattle.std.proofs.Common.{◌≡◌, ℕ, List, [], ◌∷◌, ◌++◌, map, Option, Some, None, refl, ap, sym, subst, ◌∙◌, append-nil, append_assoc}
+use Rattle.std.proofs.Common.{false, drop, length, ◌<◌, suc, get_or, ◌≡◌, ℕ, List, [], ◌∷◌, ◌++◌, map, Option, Some, None, refl, ap, sym, subst, ◌∙◌, append-nil, append_assoc}
 use Rattle.std.specs.Prelude.{Result, Ok, Err}
 use Rattle.std.specs.List.Sorted.{IsPermutation}
-use Rattle.std.proofs.lemmas.List.Sorted.{IsPermutation-refl, IsPermutation-trans, IsPermutation-append, IsPermutation-append_left, IsPermutation-append_right}
+use Rattle.std.proofs.lemmas.List.Sorted.{IsPermutation-refl, IsPermutation-trans, IsPermutation-append_left, IsPermutation-append_right}
 use Rattle.brick_spec.specs.Flow.{Flow}
-use Rattle.brick_spec.specs.FlowStage.{FlowItem, FlowStage, Drop, Came, Left, both, nothing, meant, through_row, left_by}
+use Rattle.brick_spec.specs.FlowStage.{FlowItem, Drop, Came, Left, both, nothing, meant, through_row, left_by}
 use Rattle.brick_spec.specs.Item.{Item}
 use Rattle.brick_spec.specs.Stage.{Reason}
-use Rattle.batch_ops.specs.Operator.{Goes, with_more}
-use Rattle.batch_ops.specs.Stage.{StageStands, RowStands}
+use Rattle.std.proofs.Math.Seq.{drop-cons}
+use Rattle.brick_base.specs.Flow.{flow_of}
+use Rattle.brick_base.specs.Reason.{reason_view}
+use Rattle.brick_base.specs.declared.drops.Reason.{Reason as Cause}
+use Rattle.brick_base.specs.declared.flow.Class.{Class}
+use Rattle.packet_owner.specs.Packet.{PacketModel, packet_item}
+use Rattle.batch_ops.specs.declared.outlet.Outlet.{Outlet}
+use Rattle.batch_ops.specs.Outlet.{Grows, buffer_of}
+use Rattle.batch_ops.specs.Operator.{Goes, Stepped, Finished, with_more, work_item}
+use Rattle.batch_ops.specs.Stage.{RowStands}
 use Rattle.batch_ops.proofs.Calls.{same_order}
-use Rattle.batch_ops.proofs.Stages.{stage_goes, stage_rests}
+use Rattle.batch_ops.proofs.Stages.{stage_goes, stage_rests, step_passes, step_drops, end_adds_nothing}
+use Rattle.map_filter.specs.declared.row.StageRow.{StageRow}
 use Rattle.batch_ops.proofs.ThenCalls.{last_swapped}
-use Rattle.map_filter.specs.Row.{made_by, flow_stage, tried, next_made, made_along}
+use Rattle.map_filter.specs.Row.{made_by, flow_stage, tried, made_along}
 use Rattle.map_filter.specs.declared.row.AnyStage.{AnyStage}
 
 -- what leaves, by what a row makes of an item
@@ -83,3 +92,33 @@ row_rests ss n came left still (p, d) =
       append-nil left.passed ∙ (p ∙ ap (λ (l : Left). l.passed) (sym e)),
       IsPermutation-trans _ _ _ (same_order _ _ (append-nil left.dropped)) (IsPermutation-trans _ _ _ d (same_order _ _ (ap (λ (l : Left). l.dropped) (sym e)))),
     )
+
+-- AS AN OPERATOR
+
+abbrev stands : StageRow → Flow → Came → Left → Type 0
+stands s flow came left = RowStands (map flow_stage s.stages.items) came left
+
+row_goes_by : (o : StageRow) (class : Class) (p : PacketModel) (r : Result Item Drop) → made_along o.stages.items (Ok (packet_item p)) ≡ r → Goes stands o o (flow_of class) (work_item class p ∷ []) None (left_all (work_item class p) r)
+row_goes_by o class p r made came left still was =
+    subst (λ (t : Result Item Drop). RowStands (map flow_stage o.stages.items) (with_more came (work_item class p ∷ []) None) (both left (left_all (work_item class p) t))) made
+    (row_goes o.stages.items (work_item class p) came left still was)
+
+pub row_keeps : (o : StageRow) (class : Class) (p q : PacketModel) (out out' : Outlet) → made_along o.stages.items (Ok (packet_item p)) ≡ Ok (packet_item q) → buffer_of q ≡ buffer_of p
+    → Grows out.passed.items out out' (record { passed = record { dir = class.dir; packet = q } ∷ []; dropped = []; consumed = [] }) → out'.spare ≡ out.spare
+    → Stepped stands (λ _. Unit {0}) (λ _. false) (λ _. 0) (λ _. 0) o o class p out out' (Ok tt)
+row_keeps o class p q out out' made same grows spare = step_passes stands (λ _. Unit {0}) o tt class p q out out' same grows spare (row_goes_by o class p (Ok (packet_item q)) made)
+
+pub row_rejects : (o : StageRow) (class : Class) (p q : PacketModel) (r : Cause) (out out' : Outlet) → made_along o.stages.items (Ok (packet_item p)) ≡ Err (record { reason = reason_view r; item = packet_item q }) → buffer_of q ≡ buffer_of p
+    → Grows out.passed.items out out' (record { passed = []; dropped = record { reason = Some r; packet = q } ∷ []; consumed = [] }) → out'.spare ≡ out.spare
+    → Stepped stands (λ _. Unit {0}) (λ _. false) (λ _. 0) (λ _. 0) o o class p out out' (Ok tt)
+row_rejects o class p q r out out' made same grows spare = step_drops stands (λ _. Unit {0}) o tt class p q r out out' same grows spare (row_goes_by o class p (Err (record { reason = reason_view r; item = packet_item q })) made)
+
+pub row_ends : (o : StageRow) (class : Class) (records : ℕ) (out : Outlet) → Finished stands (λ _. Unit {0}) (λ _. false) (λ _. 0) (λ _. 0) o o class records out out (Ok tt)
+row_ends o class records out = end_adds_nothing stands (λ _. Unit {0}) o tt class records out (λ came left still was. row_rests o.stages.items records came left still was)
+
+-- the stage at a place drops what the ones before it made
+pub dropped_at : (ss : List AnyStage) (k : ℕ) (s : AnyStage) (all i : Item) (r : Reason) → made_along ss (Ok all) ≡ made_along (drop k ss) (Ok i) → k < length ss → s ≡ get_or ss k s → made_by s i ≡ Err r
+    → made_along ss (Ok all) ≡ Err (record { reason = r; item = i })
+dropped_at ss k s all i r so_far below at made =
+    let next : drop k ss ≡ s ∷ drop (suc k) ss = drop-cons ss k s below ∙ ap (λ t. t ∷ drop (suc k) ss) (sym at) in
+    so_far ∙ (ap (λ ts. made_along ts (Ok i)) next ∙ (ap (λ x. made_along (drop (suc k) ss) (tried i x)) made ∙ dropped_stays (drop (suc k) ss) (record { reason = r; item = i })))

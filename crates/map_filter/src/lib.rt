@@ -17,5 +17,5 @@ pub use datagram::{close_ip4, read_ip4};
 pub use edits::{TosStage, TtlStage};
 pub use filter::Filter;
 pub use only::OnlyStage;
-pub use row::AnyStage;
+pub use row::{AnyStage, StageRow};
 pub use transform::Transform;

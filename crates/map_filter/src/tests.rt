@@ -1,13 +1,14 @@
 ghost use Rattle.std.specs.Prelude.{◌≡◌};
 
-use crate::{OnlyStage, TosStage, TtlStage};
+use crate::{AnyStage, Filter, OnlyStage, StageRow, TosStage, Transform, TtlStage};
 use batch_ops::{Batch, Operator, Outlet, Results, Then, Work, run};
 use brick_base::{Class, Dir, Ends, NoMemory, Raw, Reason};
+use eth_ip::Ip4Mut;
 use packet_owner::{Buffer, Packet, Spare};
 use pcap_io::Entry;
 use std::process::Abort;
 use std::test::Fail;
-use tcp_udp::Match;
+use tcp_udp::{Match, Tuple};
 
 /// A UDP datagram of 4 bytes from 10.0.0.1:1000 to 10.1.2.3:53.
 const FRAME: [u8; 46] = [
@@ -141,5 +142,15 @@ fn class_other_passes(rt: HostRuntime) -> Result<(), Fail> {
     expect_passes(&rt, &mut TtlStage)?;
     expect_passes(&rt, &mut TosStage { value: 1 })?;
     expect_passes(&rt, &mut OnlyStage { wanted: UDP })?;
+    expect_passes(
+        &rt,
+        &mut Transform::new(|ip4: &mut Ip4Mut<'_>| ip4.set_ttl(9)),
+    )?;
+    expect_passes(&rt, &mut Filter::new(|tuple: &Tuple| tuple.proto == 17))?;
+    let stages = vec![in rt.alloc();
+        AnyStage::Ttl(TtlStage),
+        AnyStage::Only(OnlyStage { wanted: UDP }),
+    ]?;
+    expect_passes(&rt, &mut StageRow { stages })?;
     Ok(())
 }

@@ -1,4 +1,4 @@
-use Rattle.std.proofs.Common.{refl, ap, sym, subst, Ok}
+use Rattle.std.proofs.Common.{refl, ap, Ok}
 use Rattle.brick_base.specs.declared.drops.Reason.TheVariants.{Filter}
 use Rattle.packet_owner.specs.Packet.{PacketModel, packet_item}
 use Rattle.brick_spec.specs.FlowStage.{left_by}
