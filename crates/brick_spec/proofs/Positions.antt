@@ -13,6 +13,7 @@ position-map p v xs = ap₂ (λ (n : ℕ) (m : ℕ). cond (nat_lt n m) (Some n) 
     same_length : {X Y : Type 0} (v : X → Y) (xs : List X) → length (map v xs) ≡ length xs
     same_length v [] = refl
     same_length v (x ∷ xs) = ap suc (same_length v xs)
+
     same_place : {X Y : Type 0} (p : Y → Bool) (v : X → Y) (xs : List X) → position_or_len p (map v xs) ≡ position_or_len (λ x. p (v x)) xs
     same_place p v [] = refl
     same_place p v (x ∷ xs) = ap (λ n. cond (not (p (v x))) (1 + n) 0) (same_place p v xs)

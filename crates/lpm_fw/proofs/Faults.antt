@@ -63,12 +63,12 @@ scan_goes_on rows r row None at right here some = right_more rows r row at right
         elim (cases_lt k r) [
           | inl before ↦ right k other before at_k
           | inr past ↦
-            let e : r ≡ k = omega arith in
-            let at_r : slice_get rows r ≡ Some other = ap (slice_get rows) e ∙ at_k in
-            let both : Some row ≡ Some other = sym at ∙ at_r in
-            let same : row ≡ other = cc in
-            subst (λ (n : ℕ). spec.fault_at (map route_view (take n rows)) (route_view other) n ≡ None) e
-            (subst (λ (x : Route). spec.fault_at (map route_view (take r rows)) (route_view x) r ≡ None) same none)
+              let e : r ≡ k = omega arith in
+              let at_r : slice_get rows r ≡ Some other = ap (slice_get rows) e ∙ at_k in
+              let both : Some row ≡ Some other = sym at ∙ at_r in
+              let same : row ≡ other = cc in
+              subst (λ (n : ℕ). spec.fault_at (map route_view (take n rows)) (route_view other) n ≡ None) e
+              (subst (λ (x : Route). spec.fault_at (map route_view (take r rows)) (route_view x) r ≡ None) same none)
         ]
 
 -- the whole table

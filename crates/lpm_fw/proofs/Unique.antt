@@ -74,13 +74,13 @@ at_most : (rows : List Route) (addr b : ℕ) (x y : Route) → slice_get rows b 
 at_most rows addr b x y at h leads =
     elim (cases_lt x.to.bits y.to.bits) [
       | inl longer ↦ absurd (
-        let none = not_true _ (both _ _ h).1 in
-        let t : nat_lt x.to.bits y.to.bits ≡ true = grind (arith, nat_tests) in
-        let passes : (leads_to addr y && nat_lt x.to.bits y.to.bits) ≡ true = ap (λ b. b && nat_lt x.to.bits y.to.bits) leads ∙ t in
-        let some = list_any_at (λ other. leads_to addr other && nat_lt x.to.bits other.to.bits) rows b y (slice_get_within rows b y at)
-            (ap (λ other. leads_to addr other && nat_lt x.to.bits other.to.bits) (get_or_from_slice_get rows b y y at) ∙ passes) in
-        let no : true ≡ false = sym some ∙ none in
-        cc)
+          let none = not_true _ (both _ _ h).1 in
+          let t : nat_lt x.to.bits y.to.bits ≡ true = grind (arith, nat_tests) in
+          let passes : (leads_to addr y && nat_lt x.to.bits y.to.bits) ≡ true = ap (λ b. b && nat_lt x.to.bits y.to.bits) leads ∙ t in
+          let some = list_any_at (λ other. leads_to addr other && nat_lt x.to.bits other.to.bits) rows b y (slice_get_within rows b y at)
+          (ap (λ other. leads_to addr other && nat_lt x.to.bits other.to.bits) (get_or_from_slice_get rows b y y at) ∙ passes) in
+          let no : true ≡ false = sym some ∙ none in
+          cc)
       | inr not_longer ↦ omega arith
     ]
 

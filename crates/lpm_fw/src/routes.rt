@@ -114,9 +114,7 @@ fn first_same(before: &[Route], row: Route) -> Option<usize>
     ensures place { result ≡ position (λ other. spec.is_same_prefix (route_view row).to (route_view other)) before.now }
     ensures within { IfSome result (λ k. k < length before.now) }
 {
-    before
-        .iter()
-        .position(|other| is_same_prefix(row, *other))
+    before.iter().position(|other| is_same_prefix(row, *other))
 }
 
 /// What is wrong with row `r` behind these rows.

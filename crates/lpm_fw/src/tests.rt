@@ -19,12 +19,7 @@ fn row(to: u32, bits: u8, hop: u8) -> Route
 }
 
 /// 0.0.0.0/0, 10.0.0.0/8, 10.1.0.0/16 and 10.1.2.3/32.
-const ROWS: [(u32, u8); 4] = [
-    (0, 0),
-    (0x0a000000, 8),
-    (0x0a010000, 16),
-    (0x0a010203, 32),
-];
+const ROWS: [(u32, u8); 4] = [(0, 0), (0x0a000000, 8), (0x0a010000, 16), (0x0a010203, 32)];
 
 /// Four prefixes, one in the other, from `first` on.
 fn rows_from(alloc: Global, first: usize) -> Result<Vec<Route>, Fail> {
