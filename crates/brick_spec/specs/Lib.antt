@@ -18,7 +18,6 @@ pub mod Chain
 pub mod ChainFile
 pub mod Tenant
 pub mod Report
-pub mod CommandLine
 pub mod Cause
 pub mod Files
 pub mod Texts

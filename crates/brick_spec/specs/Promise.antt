@@ -7,7 +7,6 @@ use Rattle.brick_spec.specs.Chain.{Chain, file_names}
 use Rattle.brick_spec.specs.ChainFile.{IsChainFile, IsAccepted}
 use Rattle.brick_spec.specs.Tenant.{Tally, tally_of, texts_of}
 use Rattle.brick_spec.specs.Report.{TenantEnd, Done, TooLong, BadCapture, ReadFault, WriteFault, Line, line_text, Outcome, Usage, ChainsRefused, StoreFault, NoMemory, Reported, outcome_text, status_of, IsAllDone, HasOther, HasReport}
-use Rattle.brick_spec.specs.CommandLine.{IsLine}
 use Rattle.brick_spec.specs.Cause.{Rose, chains_account, reading_account, writing_account}
 use Rattle.brick_spec.specs.Files.{Files, FaultCounts, AllStay, AppendsFront}
 use Rattle.brick_spec.specs.Texts.{Holds, OthersStayOf, StopsWithin, MayWrite, SomeRose}
@@ -164,11 +163,11 @@ pub record Shown (outcome : Outcome) (old new : List ℕ) (before now status : �
 -- THE PROMISES
 
 -- Command line: status 2 comes exactly where the words are no line, but for want of memory. The store is then unchanged.
-pub record CommandLinePromise (tells : Type 0) (words : List (List ℕ)) (before now : Seen) (status : ℕ) : Type 0 where
-  pub no_line : status ≡ 2 → ¬ (IsLine words)
-  pub comes : ¬ (IsLine words) → (status ≡ 2) ⊎ (status ≡ 6)
-  pub files : tells → ¬ (IsLine words) → AllStay before.store.files now.store.files
-  pub faults : ¬ (IsLine words) → (account : ℕ) (name : List ℕ) → now.store.faults account name ≡ before.store.faults account name
+pub record CommandLinePromise (tells is_line : Type 0) (before now : Seen) (status : ℕ) : Type 0 where
+  pub no_line : status ≡ 2 → ¬ is_line
+  pub comes : ¬ is_line → (status ≡ 2) ⊎ (status ≡ 6)
+  pub files : tells → ¬ is_line → AllStay before.store.files now.store.files
+  pub faults : ¬ is_line → (account : ℕ) (name : List ℕ) → now.store.faults account name ≡ before.store.faults account name
 
 -- Usage: under status 2 the sink is told the usage text.
 pub record UsagePromise (before now : Seen) (status : ℕ) : Type 0 where

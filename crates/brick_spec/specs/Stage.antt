@@ -1,7 +1,9 @@
 -- Item stages, and what a row of them makes of a list of items.
 use Rattle.std.specs.Prelude.{ℕ, ◌-◌, nat_le, nat_eq, List, [], ◌∷◌, ◌++◌, flat_map, Option, Some, None, Result, Ok, Err, if◌then◌else◌, codes}
 use Rattle.brick_spec.specs.Layer.{Layer, header_in, ip4_layer}
-use Rattle.brick_spec.specs.Edit.{ttl_of, protocol_of, frame_with_ttl}
+use Rattle.brick_spec.specs.Edit.{ttl_of, protocol_of, frame_with_ttl, with_header, with_tos}
+use Rattle.brick_spec.specs.Tuple.{Tuple, tuple_of}
+use Rattle.brick_spec.specs.Match.{Match, meets_tuple}
 use Rattle.brick_spec.specs.Item.{Item}
 
 -- why an item is dropped
@@ -54,6 +56,23 @@ only_at p i l = if nat_eq (protocol_of (header_in i.frame l)) (protocol_number p
 
 abbrev pub only_stage : Protocol → ItemStage
 only_stage p i = on_ip4 i (only_at p i) (ip4_layer i.frame)
+
+-- the item with this header for that of a layer
+abbrev pub with_item_header : Item → Layer → List ℕ → Item
+with_item_header i l header = record i { frame = with_header i.frame l header }
+
+-- stage `set_tos`: the type of service becomes this value
+abbrev pub tos_stage : ℕ → ItemStage
+tos_stage value i = on_ip4 i (λ l. Ok (with_item_header i l (with_tos (header_in i.frame l) value))) (ip4_layer i.frame)
+
+-- what a stage does where there is a five-tuple; without one, and so for class Other, the item passes
+abbrev pub on_tuple : Item → (Tuple → Result Item Reason) → Option Tuple → Result Item Reason
+on_tuple i does None = Ok i
+on_tuple i does (Some t) = does t
+
+-- stage `only` with a match: an item that does not meet it is dropped
+abbrev pub match_stage : Match → ItemStage
+match_stage wanted i = on_tuple i (λ t. if meets_tuple wanted t then Ok i else Err Filter) (tuple_of i.frame)
 
 -- the stages that a chain file names
 pub data Stage : Type 0 where

@@ -14,7 +14,7 @@ use Rattle.brick_spec.specs.Cause.{Rose, reading_account, writing_account}
 use Rattle.brick_spec.specs.Files.{Files, FaultCounts, AllStay}
 use Rattle.brick_spec.specs.Texts.{OthersStayOf, SomeRose}
 use Rattle.brick_spec.specs.Promise.{Held, Seen, CountRose, Says, IsRefused, Captured, IsTooLong, IsBad, IsUnreadable, HasWritten, NoneTouched, MayHaveWritten, TenantPromises, tenant_line, IsReportOf, IsTrueOf, NoneRose, Told, Shown, ChainFilePromise, StoreFaultPromise, SinkFaultPromise, CapturePromise, PartialFilesPromise, UntouchedPromise, OutputPromise, ReportPromise, CompletenessPromise, InlinePromises}
-use Rattle.brick_spec.specs.CommandLine.{IsLineOf}
+use Rattle.bricks_main.specs.CommandLine.{IsLineOf}
 use Rattle.bricks_main.proofs.ChainFiles.{one_chain}
 use Rattle.bricks_main.proofs.Runs.{all_held_may, stops_may}
 use Rattle.bricks_main.proofs.Tenants.{some_both, captured_long, captured_bad, same_contents}

@@ -6,3 +6,4 @@ pub mod ProgressView
 pub mod Row
 pub mod Run
 pub mod WholeFiles
+pub mod CommandLine

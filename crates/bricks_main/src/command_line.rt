@@ -1,6 +1,6 @@
 //! The words that the program is called with.
 ghost use Rattle.std.specs.Prelude.{◌≡◌, ◌≢◌, ◌↔◌, List, ℕ, [], ◌∷◌, IsTrue, MatchOption, map, string_bytes, codes};
-ghost use Rattle.brick_spec.specs.CommandLine.{IsFileWord, IsLineOf, IsLine};
+ghost use Rattle.bricks_main.specs.CommandLine.{IsFileWord, IsLineOf, IsLine};
 
 /// A line of the program: `inline CHAINS OUT`.
 #[derive(Clone, Copy)]

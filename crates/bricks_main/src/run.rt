@@ -1,7 +1,7 @@
 //! The top calls.
 ghost use Rattle.std.specs.Prelude.{◌≡◌, ◌≢◌, ◌≤◌, ◌↔◌, List, ℕ, IsTrue, map, string_bytes, codes};
 ghost use Rattle.brick_spec.specs.Cause.{Rose};
-ghost use Rattle.brick_spec.specs.CommandLine.{IsLineOf};
+ghost use Rattle.bricks_main.specs.CommandLine.{IsLine, IsLineOf};
 ghost use Rattle.brick_spec.specs.Files.{AppendsFront};
 ghost use Rattle.brick_spec.specs.Report.{Usage, HasReport};
 ghost use Rattle.brick_spec.specs.Promise.{seen, Told, Shown, CommandLinePromise, UsagePromise, InlinePromises};
@@ -84,7 +84,7 @@ pub fn run_words<S: Store, P: Sink>(
     store: &mut S,
     out: &mut P,
 ) -> u8
-    ensures command_line { CommandLinePromise (IsTrue S.tells) (map string_bytes words.now)
+    ensures command_line { CommandLinePromise (IsTrue S.tells) (IsLine (map string_bytes words.now))
         (seen (S.file store.old) (S.faults store.old) (P.written out.old) (P.faults out.old))
         (seen (S.file store.new) (S.faults store.new) (P.written out.new) (P.faults out.new)) result }
     ensures usage { IsTrue P.tells → UsagePromise
