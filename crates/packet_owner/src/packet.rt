@@ -1,4 +1,4 @@
-ghost use Rattle.std.specs.Prelude.{◌≡◌, ◌≤◌, ◌+◌, ◌++◌, [], ◌∷◌, length, drop, Some, None, IfOk, IfErr, OnErr};
+ghost use Rattle.std.specs.Prelude.{◌≡◌, ◌≤◌, ◌+◌, ◌++◌, [], ◌∷◌, length, take, drop, replicate, Some, None, IfOk, IfErr, OnErr};
 ghost use Rattle.std.specs.Borrow.{sem};
 ghost use Rattle.brick_spec.specs.Item.{item_of};
 ghost use Rattle.pcap_io.specs.View.{entry_view, item_view};
@@ -49,6 +49,14 @@ fn fill_front(bytes: &mut [u8], frame: &[u8])
     bytes[..frame.len()].copy_from_slice(frame);
 }
 
+/// Writes zeros over the first bytes.
+fn clear_front(bytes: &mut [u8], len: usize)
+    requires { len ≤ length bytes.old }
+    ensures { bytes.new ≡ replicate len 0 ++ drop len bytes.old }
+{
+    bytes[..len].fill(0);
+}
+
 impl Packet<Raw> {
     /// The packet of the record of this number, in the buffer, whose memory the packet keeps. The frame is copied.
     pub fn fill(buffer: Buffer, number: u32, entry: Entry<'_>) -> Packet<Raw>
@@ -70,6 +78,72 @@ impl Packet<Raw> {
             seconds: entry.seconds,
             fraction: entry.fraction,
             original: entry.original,
+            places: ArrayVec::new(),
+            layer: PhantomData,
+        }
+    }
+
+    /// A packet of `len` zero bytes in the buffer, whose memory the packet keeps, with this key and these times. On the link it is
+    /// as long.
+    pub fn blank(
+        buffer: Buffer,
+        a: u64,
+        j: u32,
+        seconds: u32,
+        fraction: u32,
+        len: u32,
+    ) -> Packet<Raw>
+        requires { len ≤ buffer.room }
+        ensures item { packet_item result ≡ record { a = a; j = j; seconds = seconds; fraction = fraction; original = len; frame = replicate len 0 } }
+        ensures slot { result.slot ≡ buffer.slot }
+        ensures room { result.room ≡ buffer.room }
+        ensures layers { result.layers ≡ [] }
+    {
+        let Buffer { slot, mut bytes } = buffer;
+        clear_front(&mut bytes, len as usize);
+        Packet {
+            slot,
+            bytes,
+            len: len as usize,
+            a,
+            j,
+            seconds,
+            fraction,
+            original: len,
+            places: ArrayVec::new(),
+            layer: PhantomData,
+        }
+    }
+
+    /// The packet with the first `len` bytes of its frame alone, in its own buffer. On the link it is as long.
+    pub fn cut(self, len: u32) -> Packet<Raw>
+        requires { len ≤ length self.frame }
+        ensures item { packet_item result ≡ record (packet_item self) { original = len; frame = take len self.frame } }
+        ensures slot { result.slot ≡ self.slot }
+        ensures room { result.room ≡ self.room }
+        ensures layers { result.layers ≡ [] }
+    {
+        let Packet {
+            slot,
+            bytes,
+            len: _,
+            a,
+            j,
+            seconds,
+            fraction,
+            original: _,
+            places: _,
+            layer: _,
+        } = self;
+        Packet {
+            slot,
+            bytes,
+            len: len as usize,
+            a,
+            j,
+            seconds,
+            fraction,
+            original: len,
             places: ArrayVec::new(),
             layer: PhantomData,
         }
