@@ -6,4 +6,4 @@ pub mod Right
 pub mod Addresses
 pub mod Frames
 pub mod PacketLayers
-mod Placed
+pub mod Placed

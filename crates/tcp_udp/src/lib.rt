@@ -27,7 +27,7 @@ pub use tcp_header::{
     TcpMut, TcpView, set_tcp_destination_port, set_tcp_source_port, tcp_acknowledgement,
     tcp_address_changed, tcp_checksum, tcp_flags, tcp_sequence, tcp_window,
 };
-pub use transport::transport_ok;
+pub use transport::{segment_checksum, transport_ok};
 pub use tuple::Tuple;
 pub use udp::Udp;
 pub use udp_header::{

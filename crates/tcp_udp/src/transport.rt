@@ -57,8 +57,9 @@ fn is_udp_right(header: &[u8], segment: &[u8]) -> bool
     stored == right
 }
 
-/// The checksum of the pseudo-header and the segment, with 0 for the word at the checksum's place.
-fn segment_checksum(header: &[u8], segment: &[u8], at: usize) -> u16
+/// The checksum of the pseudo-header and the segment, with 0 for the word at the checksum's place `at`. `header` is that of IPv4, and the
+/// length in the pseudo-header is that of the segment. No byte is copied.
+pub fn segment_checksum(header: &[u8], segment: &[u8], at: usize) -> u16
     requires outer { 20 ≤ length header.now }
     requires even { at % 2 ≡ 0 }
     requires within { at + 2 ≤ length segment.now }
