@@ -309,6 +309,13 @@ impl<P: Proto> Packet<P> {
         (self.a, self.j)
     }
 
+    /// Its time: the seconds since 1970-01-01 00:00:00 UTC, and the microseconds or nanoseconds behind them.
+    pub fn times(&self) -> (u32, u32)
+        ensures { result ≡ (self.now.seconds, self.now.fraction) }
+    {
+        (self.seconds, self.fraction)
+    }
+
     /// The number of its buffer.
     pub fn slot(&self) -> u32
         ensures { result ≡ self.now.slot }
