@@ -1,0 +1,5 @@
+mod TcpPlaces
+mod Emitted
+mod BareFrames
+mod WholeFrames
+mod EmittedRight
