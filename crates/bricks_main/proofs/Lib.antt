@@ -1,3 +1,4 @@
+pub mod Checks
 pub mod ChainTexts
 pub mod ChainFiles
 pub mod FrameLayers
@@ -12,3 +13,4 @@ pub mod TakeRecord
 pub mod Telling
 pub mod Tenants
 pub mod TextLists
+pub mod Words
