@@ -13,4 +13,3 @@ pub mod TakeRecord
 pub mod Telling
 pub mod Tenants
 pub mod TextLists
-pub mod Words

@@ -90,12 +90,7 @@ fn names_of(alloc: Global, chain: Chain) -> Result<Vec<String>, NoMemory>
 }
 
 /// Reads the chain file alone.
-pub fn check_files<S: Store>(
-    alloc: Global,
-    store: &mut S,
-    chains: &str,
-    out: &str,
-) -> CheckOutcome
+pub fn check_files<S: Store>(alloc: Global, store: &mut S, chains: &str, out: &str) -> CheckOutcome
     ensures is_true { IsTrueOfCheck (IsTrue S.tells) chains.now out.now
         (held (S.file store.old) (S.faults store.old)) (held (S.file store.new) (S.faults store.new)) (check_view result) }
     ensures held { IsTrue S.tells → AllStay (S.file store.old) (S.file store.new) }

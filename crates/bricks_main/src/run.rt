@@ -70,13 +70,8 @@ fn tell_check<P: Sink>(alloc: Global, sink: &mut P, outcome: &CheckOutcome) -> u
     match sink.write(text.as_bytes()) {
         Ok(()) => check_status(outcome),
         Err(IoFault::NoMemory) => 6,
-        Err(IoFault::Failed) => {
-            if is_checked(outcome) {
-                5
-            } else {
-                check_status(outcome)
-            }
-        }
+        Err(IoFault::Failed) if is_checked(outcome) => 5,
+        Err(IoFault::Failed) => check_status(outcome),
     }
 }
 
@@ -154,16 +149,16 @@ pub fn run_words<S: Store, P: Sink>(
         (seen (S.file store.new) (S.faults store.new) (P.written out.new) (P.faults out.new)) result }
     ensures inline { (line : Line) → line_of (map string_bytes words.now) ≡ Some line → line.mode ≡ Inline
         → InlinePromises (IsTrue S.tells) (IsTrue P.tells) line.chains line.out
-            (seen (S.file store.old) (S.faults store.old) (P.written out.old) (P.faults out.old))
-            (seen (S.file store.new) (S.faults store.new) (P.written out.new) (P.faults out.new)) result }
+        (seen (S.file store.old) (S.faults store.old) (P.written out.old) (P.faults out.old))
+        (seen (S.file store.new) (S.faults store.new) (P.written out.new) (P.faults out.new)) result }
     ensures check { (line : Line) → line_of (map string_bytes words.now) ≡ Some line → line.mode ≡ Check
         → CheckPromises (IsTrue S.tells) (IsTrue P.tells) line.chains line.out
-            (seen (S.file store.old) (S.faults store.old) (P.written out.old) (P.faults out.old))
-            (seen (S.file store.new) (S.faults store.new) (P.written out.new) (P.faults out.new)) result }
+        (seen (S.file store.old) (S.faults store.old) (P.written out.old) (P.faults out.old))
+        (seen (S.file store.new) (S.faults store.new) (P.written out.new) (P.faults out.new)) result }
 {
     match read_words(alloc, words) {
+        Err(NoMemory) => tell_no_memory(out),
         Ok(Some(line)) => run_line(alloc, &line, store, out),
         Ok(None) => tell_usage(alloc, out),
-        Err(NoMemory) => tell_no_memory(out),
     }
 }
