@@ -1,11 +1,11 @@
 -- The promises of mode `check`, from what its parts did.
-use Rattle.std.proofs.Common.{◌≡◌, ◌≢◌, ◌⊎◌, inl, inr, ℕ, List, [], ◌∷◌, ◌++◌, refl, sym, ◌∙◌, ap, subst, arith}
+use Rattle.std.proofs.Common.{◌≡◌, ◌≢◌, ◌⊎◌, inl, inr, ℕ, List, ◌++◌, refl, sym, ◌∙◌, ap, subst, arith}
 use Rattle.std.proofs.lemmas.List.{append-nil}
 use Rattle.brick_spec.specs.Chain.{Chain}
 use Rattle.brick_spec.specs.Cause.{Rose}
-use Rattle.brick_spec.specs.Files.{Files, AllStay}
-use Rattle.brick_spec.specs.Promise.{Held, Seen, CountRose, Says, IsRefused, NoneRose, ChainFilePromise, StoreFaultPromise}
-use Rattle.bricks_main.specs.Check.{CheckOutcome, ChainsRefused, StoreFault, NoMemory, Checked, ok_text, check_text, IsChecked, CheckTold, CheckShown, IsTrueOfCheck, AcceptedPromise, CheckReportPromise, CheckCompletenessPromise, CheckPromises}
+use Rattle.brick_spec.specs.Files.{AllStay}
+use Rattle.brick_spec.specs.Promise.{Held, Seen, CountRose, Says, IsRefused, NoneRose}
+use Rattle.bricks_main.specs.Check.{CheckOutcome, ChainsRefused, StoreFault, NoMemory, Checked, ok_text, check_text, IsChecked, CheckTold, CheckShown, IsTrueOfCheck, CheckPromises}
 use Rattle.bricks_main.proofs.Promises.{says_refused, same_chain}
 
 -- what the parts of a check did

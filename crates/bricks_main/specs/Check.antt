@@ -1,5 +1,5 @@
 -- MODE `check`: what is promised of reading a chain file alone.
-use Rattle.std.specs.Prelude.{◌≡◌, ◌≢◌, ◌⊎◌, ℕ, ◌≤◌, List, [], ◌∷◌, ◌++◌, flat_map, codes, if◌then◌else◌, ◌==◌}
+use Rattle.std.specs.Prelude.{◌≡◌, ◌≢◌, ◌⊎◌, ℕ, List, [], ◌∷◌, ◌++◌, flat_map, codes, if◌then◌else◌, ◌==◌}
 use Rattle.brick_spec.specs.Cause.{Rose, chains_account}
 use Rattle.brick_spec.specs.Chain.{Chain}
 use Rattle.brick_spec.specs.Files.{AllStay, AppendsFront}
