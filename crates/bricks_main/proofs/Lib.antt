@@ -1,3 +1,4 @@
+pub mod Checks
 pub mod ChainTexts
 pub mod ChainFiles
 pub mod FrameLayers

@@ -1,5 +1,5 @@
 -- The promises of a run, from what its parts did.
-use Rattle.std.proofs.Common.{◌≡◌, ◌≢◌, ◌⊎◌, inl, inr, ℕ, ◌≤◌, Bool, true, false, cond, get_or, List, [], ◌∷◌, ◌++◌, refl, sym, ◌∙◌, ap, subst, arith}
+use Rattle.std.proofs.Common.{◌≡◌, ◌≢◌, ◌⊎◌, inl, inr, ℕ, ◌≤◌, Bool, true, false, cond, List, [], ◌∷◌, ◌++◌, refl, sym, ◌∙◌, ap, subst, arith}
 use Rattle.std.specs.Prelude.{Option, Some, None, IsSomeAnd, IsTrue}
 use Rattle.std.specs.List.{AllByRecursion, list_all}
 use Rattle.std.proofs.lemmas.Bool.{cases_eq}
@@ -14,7 +14,6 @@ use Rattle.brick_spec.specs.Cause.{Rose, reading_account, writing_account}
 use Rattle.brick_spec.specs.Files.{Files, FaultCounts, AllStay}
 use Rattle.brick_spec.specs.Texts.{OthersStayOf, SomeRose}
 use Rattle.brick_spec.specs.Promise.{Held, Seen, CountRose, Says, IsRefused, Captured, IsTooLong, IsBad, IsUnreadable, HasWritten, NoneTouched, MayHaveWritten, TenantPromises, tenant_line, IsReportOf, IsTrueOf, NoneRose, Told, Shown, ChainFilePromise, StoreFaultPromise, SinkFaultPromise, CapturePromise, PartialFilesPromise, UntouchedPromise, OutputPromise, ReportPromise, CompletenessPromise, InlinePromises}
-use Rattle.bricks_main.specs.CommandLine.{IsLineOf}
 use Rattle.bricks_main.proofs.ChainFiles.{one_chain}
 use Rattle.bricks_main.proofs.Runs.{all_held_may, stops_may}
 use Rattle.bricks_main.proofs.Tenants.{some_both, captured_long, captured_bad, same_contents}
@@ -114,7 +113,7 @@ pub says_refused : (chains out : List ℕ) (files : Files) (chain : Chain) → S
 says_refused chains out files chain says refused =
     some_both (files chains) (λ bytes. IsChainFile chains out bytes chain) (λ bytes. ¬ (IsAccepted chains out bytes)) (λ bytes is none. none (chain, is)) says refused
 
-same_chain : (chains out : List ℕ) (files : Files) (a b : Chain) → Says chains out files a → Says chains out files b → a ≡ b
+pub same_chain : (chains out : List ℕ) (files : Files) (a b : Chain) → Says chains out files a → Says chains out files b → a ≡ b
 same_chain chains out files a b s t = some_says (files chains) s t
   where
     some_says : (o : Option (List ℕ)) → IsSomeAnd o (λ bytes. IsChainFile chains out bytes a) → IsSomeAnd o (λ bytes. IsChainFile chains out bytes b) → a ≡ b
@@ -479,15 +478,3 @@ promises_kept tells shows chains out before now o s r = record {
 
 pub usage_status : (s : ℕ) → Told Usage s → (s ≡ 2) ⊎ (s ≡ 6)
 usage_status s told = status_is Usage s told
-
--- a line has one chain file and one folder
-pub one_line_of : (a b c d : List ℕ) (words : List (List ℕ)) → IsLineOf a b words → IsLineOf c d words → (a ≡ c) × (b ≡ d)
-one_line_of a b c d words h k =
-    let same = sym h.are ∙ k.are in
-    (ap (λ l. get_or l 1 []) same, ap (λ l. get_or l 2 []) same)
-
-pub promises_of_line : (tells shows : Type 0) (a b c d : List ℕ) (words : List (List ℕ)) (before now : Seen) (s : ℕ) → IsLineOf a b words → IsLineOf c d words
-    → InlinePromises tells shows a b before now s → InlinePromises tells shows c d before now s
-promises_of_line tells shows a b c d words before now s h k p =
-    let same = one_line_of a b c d words h k in
-    subst (λ x. InlinePromises tells shows c x before now s) same.1 (subst (λ x. InlinePromises tells shows x b before now s) same.0 p)

@@ -6,4 +6,7 @@ pub mod ProgressView
 pub mod Row
 pub mod Run
 pub mod WholeFiles
-pub mod CommandLine
+pub mod Chains
+pub mod Check
+pub mod CheckView
+pub mod Lines

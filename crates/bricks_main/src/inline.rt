@@ -10,7 +10,7 @@ ghost use Rattle.bricks_main.specs.Run.{made_tally, written_texts, one_line, Ten
 ghost use Rattle.bricks_main.specs.ProgressView.{progress_view};
 
 use crate::chain::{Chain, output_file, refused_file};
-use crate::chain_file::read_chain_file;
+use crate::chains::{ChainsFault, read_chains};
 use crate::refusal::refusal_of;
 use crate::report::{Line, Outcome, Output, Tally, TenantEnd};
 use crate::tenant::{Progress, take_records};
@@ -19,12 +19,6 @@ use brick_base::NoMemory;
 use pcap_io::Capture;
 use std::alloc::Global;
 use store_io::{IoFault, Store};
-
-/// The account that reads the chain file.
-const CHAINS_ACCOUNT: u32 = 0;
-
-/// The most bytes of a chain file.
-const LONGEST_CHAIN_FILE: usize = 1048576;
 
 /// The most bytes of a capture.
 const LONGEST_CAPTURE: usize = 33554432;
@@ -162,15 +156,10 @@ pub fn run_files<S: Store>(alloc: Global, store: &mut S, chains: &str, out: &str
     ensures { IsTrueOf (IsTrue S.tells) chains.now out.now
         (held (S.file store.old) (S.faults store.old)) (held (S.file store.new) (S.faults store.new)) (outcome_view result) }
 {
-    let bytes = match read_whole(alloc, store, CHAINS_ACCOUNT, chains, LONGEST_CHAIN_FILE) {
-        Ok(bytes) => bytes,
-        Err(ReadFault::TooLong) => return Outcome::ChainsRefused,
-        Err(ReadFault::Failed) => return Outcome::StoreFault,
-        Err(ReadFault::NoMemory) => return Outcome::NoMemory,
-    };
-    match read_chain_file(alloc, &bytes, chains, out) {
-        Ok(Some(chain)) => run_chain(alloc, store, &chain, out),
-        Ok(None) => Outcome::ChainsRefused,
-        Err(NoMemory) => Outcome::NoMemory,
+    match read_chains(alloc, store, chains, out) {
+        Ok(chain) => run_chain(alloc, store, &chain, out),
+        Err(ChainsFault::Refused) => Outcome::ChainsRefused,
+        Err(ChainsFault::Failed) => Outcome::StoreFault,
+        Err(ChainsFault::NoMemory) => Outcome::NoMemory,
     }
 }

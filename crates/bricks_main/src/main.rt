@@ -1,12 +1,14 @@
 //! `bricks`: chains of packet functions over captures in the classic pcap format.
 //!
-//! `bricks inline CHAINS OUT` runs the tenant of the chain file CHAINS and writes its files into the folder OUT. What a run promises
-//! is the contract of `run::run_words`, in the words of the crate `brick_spec`.
+//! `bricks [--workers N] inline CHAINS OUT` runs the tenant of the chain file CHAINS and writes its files into the folder OUT, and
+//! `bricks [--workers N] check CHAINS OUT` reads the chain file alone. What both promise is the contract of `run::run_words`, in the
+//! words of the crate `brick_spec` and of the module `Check` beside it.
 #![tactic(auto)]
 
 pub mod chain;
 pub mod chain_file;
-pub mod command_line;
+pub mod chains;
+pub mod check;
 pub mod frames;
 pub mod inline;
 pub mod plain;

@@ -1,15 +1,21 @@
 //! The top calls.
-ghost use Rattle.std.specs.Prelude.{◌≡◌, ◌≢◌, ◌≤◌, ◌↔◌, List, ℕ, IsTrue, map, string_bytes, codes};
+ghost use Rattle.std.specs.Prelude.{◌≡◌, ◌≢◌, ◌≤◌, ◌↔◌, List, ℕ, Some, IsTrue, map, string_bytes, codes};
+ghost use Rattle.brick_spec.specs.AcceptedWords.{Inline, Check, Line, line_of, IsLine};
 ghost use Rattle.brick_spec.specs.Cause.{Rose};
-ghost use Rattle.bricks_main.specs.CommandLine.{IsLine, IsLineOf};
 ghost use Rattle.brick_spec.specs.Files.{AppendsFront};
 ghost use Rattle.brick_spec.specs.Report.{Usage, HasReport};
 ghost use Rattle.brick_spec.specs.Promise.{seen, Told, Shown, CommandLinePromise, UsagePromise, InlinePromises};
+ghost use Rattle.bricks_main.specs.Check.{CheckTold, CheckShown, CheckPromises};
+ghost use Rattle.bricks_main.specs.CheckView.{check_view};
+ghost use Rattle.bricks_main.specs.Lines.{LinePromises};
 ghost use Rattle.bricks_main.specs.View.{outcome_view};
+ghost use Rattle.command_line.specs.View.{line_view};
 
-use crate::command_line::read_words;
+use crate::check::{CheckOutcome, check_files, check_status, check_text, is_checked};
 use crate::inline::run_files;
 use crate::report::{Outcome, outcome_text, status_of};
+use brick_base::NoMemory;
+use command_line::{CommandLine, Mode, read_words};
 use std::alloc::Global;
 use store_io::{IoFault, Sink, Store};
 
@@ -52,6 +58,23 @@ fn tell<P: Sink>(alloc: Global, sink: &mut P, outcome: &Outcome) -> u8
     }
 }
 
+/// Tells how a check ended by its text. A report whose write fails gives 5, and want of memory 6.
+fn tell_check<P: Sink>(alloc: Global, sink: &mut P, outcome: &CheckOutcome) -> u8
+    ensures told { CheckTold (check_view outcome.now) result }
+    ensures fault { result ≡ 5 → Rose (P.faults sink.old) (P.faults sink.new) }
+    ensures shown { IsTrue P.tells → CheckShown (check_view outcome.now) (P.written sink.old) (P.written sink.new) (P.faults sink.old) (P.faults sink.new) result }
+{
+    let Ok(text) = check_text(alloc, outcome) else {
+        return tell_no_memory(sink);
+    };
+    match sink.write(text.as_bytes()) {
+        Ok(()) => check_status(outcome),
+        Err(IoFault::NoMemory) => 6,
+        Err(IoFault::Failed) if is_checked(outcome) => 5,
+        Err(IoFault::Failed) => check_status(outcome),
+    }
+}
+
 /// Tells how the program is used, for words that are no line. The answer is the exit status 2, or 6 where memory ran out.
 pub fn tell_usage<P: Sink>(alloc: Global, sink: &mut P) -> u8
     ensures told { Told Usage result }
@@ -77,6 +100,40 @@ pub fn run_inline<S: Store, P: Sink>(
     tell(alloc, out, &outcome)
 }
 
+/// Reads the chain file `chains`, for the folder `out_dir`, and tells `out` whether it is accepted. No file is made or changed. The
+/// answer is the exit status.
+pub fn run_check<S: Store, P: Sink>(
+    alloc: Global,
+    chains: &str,
+    out_dir: &str,
+    store: &mut S,
+    out: &mut P,
+) -> u8
+    ensures { CheckPromises (IsTrue S.tells) (IsTrue P.tells) chains.now out_dir.now
+        (seen (S.file store.old) (S.faults store.old) (P.written out.old) (P.faults out.old))
+        (seen (S.file store.new) (S.faults store.new) (P.written out.new) (P.faults out.new)) result }
+{
+    let outcome = check_files(alloc, store, chains, out_dir);
+    tell_check(alloc, out, &outcome)
+}
+
+/// Does what a line says. The answer is the exit status.
+fn run_line<S: Store, P: Sink>(
+    alloc: Global,
+    line: &CommandLine<'_>,
+    store: &mut S,
+    out: &mut P,
+) -> u8
+    ensures { LinePromises (IsTrue S.tells) (IsTrue P.tells) (line_view line.now)
+        (seen (S.file store.old) (S.faults store.old) (P.written out.old) (P.faults out.old))
+        (seen (S.file store.new) (S.faults store.new) (P.written out.new) (P.faults out.new)) result }
+{
+    match line.mode {
+        Mode::Inline => run_inline(alloc, line.chains, line.out, store, out),
+        Mode::Check => run_check(alloc, line.chains, line.out, store, out),
+    }
+}
+
 /// Does what the words say, which are those after the program's name. The answer is the exit status.
 pub fn run_words<S: Store, P: Sink>(
     alloc: Global,
@@ -90,12 +147,18 @@ pub fn run_words<S: Store, P: Sink>(
     ensures usage { IsTrue P.tells → UsagePromise
         (seen (S.file store.old) (S.faults store.old) (P.written out.old) (P.faults out.old))
         (seen (S.file store.new) (S.faults store.new) (P.written out.new) (P.faults out.new)) result }
-    ensures inline { (chains out_dir : List ℕ) → IsLineOf chains out_dir (map string_bytes words.now) → InlinePromises (IsTrue S.tells) (IsTrue P.tells) chains out_dir
+    ensures inline { (line : Line) → line_of (map string_bytes words.now) ≡ Some line → line.mode ≡ Inline
+        → InlinePromises (IsTrue S.tells) (IsTrue P.tells) line.chains line.out
+        (seen (S.file store.old) (S.faults store.old) (P.written out.old) (P.faults out.old))
+        (seen (S.file store.new) (S.faults store.new) (P.written out.new) (P.faults out.new)) result }
+    ensures check { (line : Line) → line_of (map string_bytes words.now) ≡ Some line → line.mode ≡ Check
+        → CheckPromises (IsTrue S.tells) (IsTrue P.tells) line.chains line.out
         (seen (S.file store.old) (S.faults store.old) (P.written out.old) (P.faults out.old))
         (seen (S.file store.new) (S.faults store.new) (P.written out.new) (P.faults out.new)) result }
 {
-    match read_words(words) {
-        Some(line) => run_inline(alloc, line.chains, line.out, store, out),
-        None => tell_usage(alloc, out),
+    match read_words(alloc, words) {
+        Err(NoMemory) => tell_no_memory(out),
+        Ok(Some(line)) => run_line(alloc, &line, store, out),
+        Ok(None) => tell_usage(alloc, out),
     }
 }

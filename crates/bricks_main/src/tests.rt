@@ -292,12 +292,24 @@ fn a_capture_that_is_too_long(rt: HostRuntime) -> Result<(), Fail> {
 #[test]
 fn words_that_are_no_line(rt: HostRuntime) -> Result<(), Fail> {
     let alloc = rt.alloc();
-    let lines: [&[&str]; 5] = [
-        &["run", "c.toml", "out"],
+    let lines: [&[&str]; 9] = [
+        &["--workers", "17", "inline", "c.toml", "out"],
+        &["--workers", "0", "inline", "c.toml", "out"],
+        &["--workers", "01", "inline", "c.toml", "out"],
+        &[
+            "--workers",
+            "3",
+            "--workers",
+            "4",
+            "inline",
+            "c.toml",
+            "out",
+        ],
         &["inline", "c.toml"],
         &["inline", "c.toml", "out", "x"],
-        &["inline", "-c", "out"],
-        &["inline", "c.toml", ""],
+        &["--verbose", "inline", "c.toml", "out"],
+        &["-h"],
+        &["run", "c.toml"],
     ];
     for words in lines {
         let run = run(
@@ -312,6 +324,98 @@ fn words_that_are_no_line(rt: HostRuntime) -> Result<(), Fail> {
         assert!(rt; run.told == b"usage: bricks [--workers N] MODE CHAINS OUT\n".to_vec(alloc)?);
         assert!(rt; run.output.is_none());
     }
+    Ok(())
+}
+
+#[test]
+fn workers_before_and_after_the_words(rt: HostRuntime) -> Result<(), Fail> {
+    let alloc = rt.alloc();
+    let lines: [&[&str]; 2] = [
+        &["--workers=16", "inline", "c.toml", "out"],
+        &["inline", "c.toml", "out", "--workers=16"],
+    ];
+    for words in lines {
+        let run = run(
+            alloc,
+            words,
+            UDP_CHAINS,
+            HEADER.as_slice(),
+            Vec::new(alloc),
+            Vec::new(alloc),
+        )?;
+        assert_eq!(rt; run.status, 0);
+        assert!(rt; run.told == done_line(alloc, 0, 0, 0, 0, 0)?.into_bytes());
+    }
+    Ok(())
+}
+
+/// Checks a chain file: the status and what is told. No file is made.
+fn checked(
+    rt: &impl Abort,
+    alloc: Global,
+    name: &str,
+    chains: &str,
+    fails: Vec<u32>,
+    ends: (u8, &str),
+) -> Result<(), Fail> {
+    let (status, told) = ends;
+    let run = run(
+        alloc,
+        &["check", name, "out"],
+        chains,
+        &[],
+        fails,
+        Vec::new(alloc),
+    )?;
+    assert_eq!(rt; run.status, status);
+    assert!(rt; run.told == told.as_bytes().to_vec(alloc)?, "{told}");
+    assert!(rt; run.output.is_none());
+    assert!(rt; run.refused.is_none());
+    Ok(())
+}
+
+#[test]
+fn chain_files_that_are_checked(rt: HostRuntime) -> Result<(), Fail> {
+    let alloc = rt.alloc();
+    let table = [
+        ("c.toml", UDP_CHAINS, (0, "a ok\n")),
+        ("c.toml", COLLIDING_CHAINS, (3, "chains: 0 FirstForm\n")),
+        ("c.toml", "", (3, "chains: 0 FirstForm\n")),
+        ("missing.toml", UDP_CHAINS, (4, "store-fault\n")),
+    ];
+    for (name, chains, ends) in table {
+        checked(&rt, alloc, name, chains, Vec::new(alloc), ends)?;
+    }
+    for (call, ends) in [
+        (0u32, (4, "store-fault\n")),
+        (1, (4, "store-fault\n")),
+        (2, (0, "a ok\n")),
+    ] {
+        checked(
+            &rt,
+            alloc,
+            "c.toml",
+            UDP_CHAINS,
+            vec![in alloc; call]?,
+            ends,
+        )?;
+    }
+    Ok(())
+}
+
+#[test]
+fn the_write_of_a_check_failing(rt: HostRuntime) -> Result<(), Fail> {
+    let alloc = rt.alloc();
+    let run = run(
+        alloc,
+        &["check", "c.toml", "out"],
+        UDP_CHAINS,
+        &[],
+        Vec::new(alloc),
+        vec![in alloc; 0]?,
+    )?;
+    assert_eq!(rt; run.status, 5);
+    assert!(rt; b"a ok\n".starts_with(&run.told));
     Ok(())
 }
 
