@@ -2,10 +2,13 @@ pub mod ChainTexts
 pub mod ChainFiles
 pub mod FrameLayers
 pub mod Loops
-pub mod Progress
+pub mod Paths
+pub mod MoreRecords
 pub mod Promises
 pub mod Quotations
-pub mod Rows
+pub mod BatchRuns
+pub mod RowLengths
+pub mod RowMeaning
 pub mod Runs
 pub mod SplitRecords
 pub mod TakeRecord

@@ -1,5 +1,7 @@
 pub mod View
 pub mod ChainFile
+pub mod Path
+pub mod PathView
 pub mod Plain
 pub mod Progress
 pub mod ProgressView

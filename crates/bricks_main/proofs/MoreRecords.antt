@@ -21,7 +21,7 @@ through-append [] xs ys = refl
 through-append (s ∷ ss) xs ys =
     ap (λ l. (through ss l).passed) (flat_map-append (λ i. kept (s i)) xs ys) ∙ through-append ss (applied s xs).passed (applied s ys).passed
 
-count_by-append : (p : Reason → Bool) (xs ys : List Reason) → count_by p (xs ++ ys) ≡ count_by p xs + count_by p ys
+pub count_by-append : (p : Reason → Bool) (xs ys : List Reason) → count_by p (xs ++ ys) ≡ count_by p xs + count_by p ys
 count_by-append p xs ys = sum_by-append (λ r. cond (p r) 1 0) xs ys
 
 pub through-count : (p : Reason → Bool) (ss : List ItemStage) (xs ys : List Item) → count_by p (through ss (xs ++ ys)).dropped ≡ count_by p (through ss xs).dropped + count_by p (through ss ys).dropped
@@ -274,7 +274,7 @@ drops_more chain c k e r h fit is =
 
 -- NO COUNT IS GREATER THAN THE NUMBER OF RECORDS
 
-length_items : (j : ℕ) (es : List Entry) → length (items_from j es) ≡ length es
+pub length_items : (j : ℕ) (es : List Entry) → length (items_from j es) ≡ length es
 length_items j [] = refl
 length_items j (e ∷ es) = ap suc (length_items (suc j) es)
 
@@ -296,7 +296,7 @@ applied_all s (x ∷ xs) = by (s x) (applied_all s xs)
     by (Ok j) h = omega arith
     by (Err r) h = omega arith
 
-through_all : (ss : List ItemStage) (xs : List Item) → length (through ss xs).passed + length (through ss xs).dropped ≡ length xs
+pub through_all : (ss : List ItemStage) (xs : List Item) → length (through ss xs).passed + length (through ss xs).dropped ≡ length xs
 through_all [] xs = omega arith
 through_all (s ∷ ss) xs =
     let a = applied_all s xs in
@@ -305,7 +305,7 @@ through_all (s ∷ ss) xs =
     omega arith
 
 -- the accepted records and the Big ones are all
-fits_or_big : (chain : Chain) (xs : List Item) → length (filter (fits chain) xs) + length (filter (too_big chain) xs) ≡ length xs
+pub fits_or_big : (chain : Chain) (xs : List Item) → length (filter (fits chain) xs) + length (filter (too_big chain) xs) ≡ length xs
 fits_or_big chain [] = refl
 fits_or_big chain (x ∷ xs) = by (nat_le (length x.frame) chain.bytes) (nat_lt chain.bytes (length x.frame)) (other (length x.frame) chain.bytes) (fits_or_big chain xs)
   where
@@ -324,7 +324,7 @@ pub record Bounds (chain : Chain) (c : Contents) : Type 0 where
   pub passed : (so_far chain c).passed ≤ length c.entries
   pub drops : (p : ℕ) → slice_index (so_far chain c).drops p ≤ length c.entries
 
-counts_at : (rs : List Reason) (p : ℕ) → slice_index (counts_of rs) p ≤ length rs
+pub counts_at : (rs : List Reason) (p : ℕ) → slice_index (counts_of rs) p ≤ length rs
 counts_at rs zero = count_by-le-length _ rs
 counts_at rs (suc zero) = count_by-le-length _ rs
 counts_at rs (suc (suc zero)) = count_by-le-length _ rs
