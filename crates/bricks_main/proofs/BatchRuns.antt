@@ -1,15 +1,11 @@
 -- What a run of a batch leaves.
-use Rattle.std.proofs.Common.{◌≡◌, ℕ, zero, suc, get_or, ◌+◌, ◌*◌, ◌≤◌, ◌<◌, Bool, true, false, List, [], ◌∷◌, ◌++◌, length, map, flat_map, Result, Ok, Err, Option, Some, None, refl, sym, ◌∙◌, ap, subst, arith, length-append, append-nil, append_assoc, count_by, take, slice_index, length-take-le}
-use Rattle.std.specs.Prelude.{⊤}
-use Rattle.std.specs.List.{AllByRecursion}
+use Rattle.std.proofs.Common.{◌≡◌, ℕ, zero, suc, get_or, ◌+◌, ◌*◌, ◌≤◌, ◌<◌, false, List, [], ◌∷◌, ◌++◌, length, map, flat_map, Ok, Option, Some, None, refl, sym, ◌∙◌, ap, subst, arith, length-append, append-nil, append_assoc, count_by, take, slice_index, length-take-le}
 use Rattle.std.proofs.lemmas.List.{length-map, map-append, take_all}
 use Rattle.std.proofs.lemmas.Grind.{flat_map-append}
 use Rattle.std.proofs.lemmas.List.Sorted.{IsPermutation-sym, All-permutation, length_permutation}
 use Rattle.std.proofs.lemmas.List.Elements.{All-from_recursion, recursion_from_All}
 use Rattle.brick_base.specs.declared.flow.Class.{Class}
-use Rattle.brick_spec.specs.FlowStage as flow
-use Rattle.brick_spec.specs.Item.{Item}
-use Rattle.brick_spec.specs.Stage.{Reason, ItemStage, Left, through}
+use Rattle.brick_spec.specs.Stage.{Reason, through}
 use Rattle.brick_spec.specs.Tenant.{is_at, counts_of, reason_place}
 use Rattle.brick_base.specs.declared.drops.Reason.{Reason as Reason_in_code}
 use Rattle.brick_base.specs.Reason.{reason_view}

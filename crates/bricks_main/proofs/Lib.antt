@@ -1,12 +1,12 @@
-pub mod ChainTexts
+pub mod BatchRuns
 pub mod ChainFiles
+pub mod ChainTexts
 pub mod FrameLayers
 pub mod Loops
-pub mod Paths
 pub mod MoreRecords
+pub mod Paths
 pub mod Promises
 pub mod Quotations
-pub mod BatchRuns
 pub mod RowLengths
 pub mod RowMeaning
 pub mod Runs

@@ -1,11 +1,10 @@
 -- A path carries packets on after a run.
-use Rattle.std.proofs.Common.{◌≡◌, ℕ, ◌≤◌, Bool, List, [], length, map, sym, ◌∙◌, ap, subst, arith}
-use Rattle.brick_spec.specs.Item.{Item}
+use Rattle.std.proofs.Common.{◌≡◌, ℕ, ◌≤◌, Bool, List, [], length, map, sym, ◌∙◌, subst, arith}
 use Rattle.brick_spec.specs.Stage.{ItemStage}
 use Rattle.batch_ops.specs.declared.batch.Work.{Work}
 use Rattle.batch_ops.specs.Runs.{work_buffer}
 use Rattle.bricks_main.specs.Path.{row_stages, fixed_class, AreOfClass, HaveRoom, items_in, AreShort, MakesSame}
-use Rattle.bricks_main.specs.PathView.{IsReady, RanPath, Carries}
+use Rattle.bricks_main.specs.PathView.{RanPath, Carries}
 use Rattle.bricks_main.specs.Progress.{SoFar}
 use Rattle.bricks_main.specs.declared.path.Path.{Path}
 

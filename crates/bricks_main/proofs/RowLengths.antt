@@ -1,5 +1,5 @@
 -- No stage changes the length of a frame.
-use Rattle.std.proofs.Common.{◌≡◌, ℕ, ◌+◌, ◌*◌, ◌-◌, ◌≤◌, slice_index, Bool, true, false, List, [], ◌∷◌, ◌++◌, length, map, take, drop, Option, Some, None, Result, Ok, Err, if◌then◌else◌, nat_le, refl, sym, ◌∙◌, ap, subst, arith, length-append, length-drop, length-take-le}
+use Rattle.std.proofs.Common.{◌≡◌, ℕ, ◌+◌, ◌*◌, ◌-◌, ◌≤◌, slice_index, Bool, true, false, List, [], ◌∷◌, ◌++◌, length, map, take, drop, Option, Some, None, Result, Ok, Err, if◌then◌else◌, nat_le, refl, arith, length-append, length-drop, length-take-le}
 use Rattle.brick_spec.specs.Edit.{ttl_of, protocol_of, with_header, with_ttl, with_tos}
 use Rattle.brick_spec.specs.Item.{Item}
 use Rattle.brick_spec.specs.Layer.{Layer, header_in, ip4_layer}

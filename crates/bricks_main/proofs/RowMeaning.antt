@@ -1,27 +1,26 @@
 -- What a row of operators makes of a list of items is what the stages of the definitions make of it.
-use Rattle.std.proofs.Common.{◌≡◌, ℕ, ◌+◌, ◌*◌, ◌≤◌, Bool, true, false, nat_eq, cond, List, [], ◌∷◌, ◌++◌, length, map, flat_map, Option, Some, None, Result, Ok, Err, if◌then◌else◌, refl, sym, ◌∙◌, ap, subst, arith, count_by, append-nil}
-use Rattle.std.specs.List.{AllByRecursion}
+use Rattle.std.proofs.Common.{◌≡◌, ℕ, ◌+◌, Bool, true, false, nat_eq, cond, List, [], ◌∷◌, ◌++◌, length, map, None, Result, Ok, Err, if◌then◌else◌, refl, sym, ◌∙◌, ap, subst, arith, count_by}
 use Rattle.std.specs.List.Sorted.{IsPermutation}
 use Rattle.std.proofs.lemmas.Bool.Decides.{nat_tests}
 use Rattle.std.proofs.lemmas.List.{map-append, append_cancel_right}
 use Rattle.std.proofs.lemmas.List.Sorted.{IsPermutation-refl, IsPermutation-map, sum_by-IsPermutation}
 use Rattle.brick_base.specs.declared.flow.Class.{Class}
-use Rattle.brick_base.specs.Flow.{flow_of, dir_view}
+use Rattle.brick_base.specs.Flow.{flow_of}
 use Rattle.brick_spec.specs.Flow.{Flow, Forward}
-use Rattle.brick_spec.specs.FlowStage.{FlowItem, Drop, Came, Left, both, nothing, along, alone, meant, through_row, left_by}
+use Rattle.brick_spec.specs.FlowStage.{FlowItem, Came, Left, both, along, alone, meant, through_row, left_by}
 use Rattle.brick_spec.specs.Item.{Item}
 use Rattle.brick_spec.specs.Stage.{Reason, ItemStage, kept, reason_in, applied, through}
 use Rattle.brick_spec.specs.Stage as item
 use Rattle.packet_owner.specs.Packet.{packet_item}
 use Rattle.batch_ops.specs.declared.batch.Work.{Work}
-use Rattle.batch_ops.specs.Operator.{with_more, work_item}
+use Rattle.batch_ops.specs.Operator.{work_item}
 use Rattle.batch_ops.specs.Runs.{came_of, left_of, AreOf, RanOn, all_left}
 use Rattle.batch_ops.specs.Stage.{RowStands}
 use Rattle.map_filter.specs.Row.{made_by, flow_stage}
 use Rattle.map_filter.specs.Stages.{on_item}
 use Rattle.map_filter.specs.declared.row.AnyStage.{AnyStage}
 use Rattle.map_filter.specs.declared.row.StageRow.{StageRow}
-use Rattle.bricks_main.specs.Path.{row_stages, AreOfClass, items_in, item_in_work, reason_of_drop, AreAlike, MakesSame}
+use Rattle.bricks_main.specs.Path.{row_stages, AreOfClass, items_in, reason_of_drop, AreAlike, MakesSame}
 use Rattle.bricks_main.proofs.MoreRecords.{through-append, through-count, passed_nothing, dropped_nothing, count_by-append}
 
 -- WITHOUT DIRECTIONS
@@ -116,10 +115,10 @@ row_made old new xs added goes =
     let now : map item_of_flow added.passed ≡ (through after items).passed =
     ap (λ t. t ++ map item_of_flow added.passed) (sym (passed_nothing before)) ∙ (none.0 ∙ ap (λ t. t ++ (through after items).passed) (passed_nothing after)) in
     let now_dropped : (p : Reason → Bool) → count_by p (map reason_of_drop added.dropped) ≡ count_by p (through after items).dropped = λ p.
-        let e = none.1 p in
-        let b = ap (count_by p) (dropped_nothing before) in
-        let a = ap (count_by p) (dropped_nothing after) in
-        omega (arith, e, a, b) in
+    let e = none.1 p in
+    let b = ap (count_by p) (dropped_nothing before) in
+    let a = ap (count_by p) (dropped_nothing after) in
+    omega (arith, e, a, b) in
     let same : MakesSame before after = record {
       passed = λ is. sym (append_cancel_right _ _ _ ((went_on old new xs added goes is).0 ∙ ap (λ t. (through after is).passed ++ t) (sym now)));
       dropped = λ is p. let e = (went_on old new xs added goes is).1 p in let n = now_dropped p in omega (arith, e, n);
@@ -170,8 +169,8 @@ pub run_made : (old new : StageRow) (c : Class) (ws : List Work) (parts : List L
     → MakesSame (row_stages old) (row_stages new) × IsMade (row_stages old) (items_in ws) added
 run_made old new c ws parts added are each all ran =
     let goes : GoesOn old.stages.items new.stages.items (work_items c ws) added = λ ys left was.
-        let h = ran (flow_of c) (are_of c ws are) (came_so ys) left refl was in
-        subst (λ (l : Left). RowStands (map flow_stage new.stages.items) (came_so (ys ++ work_items c ws)) (both left l)) (left_all c ws parts are each ∙ sym all)
-        (subst (λ (xs : List FlowItem). RowStands (map flow_stage new.stages.items) (came_so (ys ++ xs)) (both left (left_of (flow_of c) ws parts))) (came_all c ws are) h) in
+    let h = ran (flow_of c) (are_of c ws are) (came_so ys) left refl was in
+    subst (λ (l : Left). RowStands (map flow_stage new.stages.items) (came_so (ys ++ work_items c ws)) (both left l)) (left_all c ws parts are each ∙ sym all)
+    (subst (λ (xs : List FlowItem). RowStands (map flow_stage new.stages.items) (came_so (ys ++ xs)) (both left (left_of (flow_of c) ws parts))) (came_all c ws are) h) in
     let made = row_made old.stages.items new.stages.items (work_items c ws) added goes in
     (made.0, subst (λ (is : List Item). IsMade (row_stages old) is added) (items_are c ws) made.1)

@@ -5,7 +5,7 @@ pub mod PathView
 pub mod Plain
 pub mod Progress
 pub mod ProgressView
-pub mod Row
+pub mod InPlace
 pub mod Run
 pub mod WholeFiles
 pub mod CommandLine

@@ -1,9 +1,9 @@
 -- The path of a tenant's packets: batches of them through a row of stages.
-use Rattle.std.specs.Prelude.{◌≡◌, ℕ, Bool, List, [], ◌∷◌, ◌++◌, ◌+◌, ◌≤◌, length, map, flat_map, None, count_by}
+use Rattle.std.specs.Prelude.{◌≡◌, ℕ, Bool, List, ◌++◌, ◌+◌, ◌≤◌, length, map, flat_map, None, count_by}
 use Rattle.std.specs.List.{AllByRecursion}
 use Rattle.brick_base.specs.declared.flow.Class.{Class}
 use Rattle.brick_base.specs.declared.flow.Dir.TheVariants.{Forward}
-use Rattle.brick_spec.specs.FlowStage.{FlowItem, Drop}
+use Rattle.brick_spec.specs.FlowStage.{Drop}
 use Rattle.brick_spec.specs.Item.{Item, items_text}
 use Rattle.brick_spec.specs.Stage.{Reason, ItemStage, Left, through}
 use Rattle.brick_spec.specs.Tenant.{counts_of}

@@ -3,7 +3,7 @@ use Rattle.std.specs.Prelude.{◌≡◌, ℕ, ◌+◌, Bool, List, [], ◌∷◌
 use Rattle.brick_spec.specs.Capture.{Contents}
 use Rattle.brick_spec.specs.Item.{Item, items_text}
 use Rattle.brick_spec.specs.Chain.{Chain}
-use Rattle.brick_spec.specs.Stage.{Reason, Big, stage_of, through}
+use Rattle.brick_spec.specs.Stage.{Big, stage_of, through}
 use Rattle.brick_spec.specs.Tenant.{accepted_items, big_items, made, reasons, counts_of, output_text}
 
 -- the first k records

@@ -4,7 +4,7 @@ ghost use Rattle.brick_spec.specs.Item.{Item};
 ghost use Rattle.brick_spec.specs.Layer.{Layer, ip4_layer};
 ghost use Rattle.brick_spec.specs.Stage.{stage_of, ttl_stage, only_stage};
 ghost use Rattle.bricks_main.specs.View.{protocol_view, stage_view};
-ghost use Rattle.bricks_main.specs.Row.{with_frame};
+ghost use Rattle.bricks_main.specs.InPlace.{with_frame};
 
 use crate::chain::{Protocol, Stage};
 use brick_base::{Proto, Reason};

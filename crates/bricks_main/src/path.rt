@@ -22,8 +22,8 @@ use batch_ops::{Batch, Dropped, Outlet, Passed, Results, Work, run};
 use brick_base::{Class, Dir, Ends, NoMemory, Raw};
 use map_filter::{AnyStage, OnlyStage, StageRow, TtlStage};
 use packet_owner::{Buffer, Packet, Spare};
-use std::alloc::Global;
 use pcap_io::Entry;
+use std::alloc::Global;
 use tcp_udp::Match;
 
 /// The most packets of a batch.
@@ -204,7 +204,12 @@ pub fn make_way(
 }
 
 /// A buffer that lies ready, or a new one: there are never more of them than a batch has packets.
-fn take_buffer(alloc: Global, slot: u32, bytes: u32, ready: &mut Vec<Buffer>) -> Result<Buffer, NoMemory>
+fn take_buffer(
+    alloc: Global,
+    slot: u32,
+    bytes: u32,
+    ready: &mut Vec<Buffer>,
+) -> Result<Buffer, NoMemory>
     requires { HaveRoom bytes ready.old.items }
     ensures room { IfOk result (λ b. b.room ≡ bytes) }
     ensures ready { HaveRoom bytes ready.new.items }

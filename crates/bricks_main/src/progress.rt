@@ -50,7 +50,11 @@ pub fn count_drop(drops: &mut [u32; 9], reason: Reason)
 }
 
 /// Takes the item of a packet that no stage has dropped into the output.
-pub fn write_item(alloc: Global, progress: &mut Progress, packet: &Packet<Raw>) -> Result<(), NoMemory>
+pub fn write_item(
+    alloc: Global,
+    progress: &mut Progress,
+    packet: &Packet<Raw>,
+) -> Result<(), NoMemory>
     requires short { length packet.now.frame ≤ 262144 }
     requires room { progress.old.passed + 1 < 2 ^ 32 }
     ensures { OnOk result (WritesItem (packet_item packet.now) (progress_view progress.old) (progress_view progress.new)) }

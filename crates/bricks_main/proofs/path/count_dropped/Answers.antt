@@ -1,4 +1,4 @@
-use Rattle.std.proofs.Common.{sym, ◌∙◌, ap, subst, take, ◌+◌}
+use Rattle.std.proofs.Common.{sym, ◌∙◌, subst, take, ◌+◌}
 use Rattle.brick_spec.specs.Tenant.{reason_place}
 use Rattle.brick_base.specs.Reason.{reason_view}
 use Rattle.bricks_main.specs.Path.{reasons_in, CountsDrops}

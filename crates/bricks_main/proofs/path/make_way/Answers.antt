@@ -1,5 +1,5 @@
-use Rattle.std.proofs.Common.{◌≡◌, [], map, sym, ◌∙◌, ap, subst}
-use Rattle.bricks_main.specs.Path.{row_stages, items_in, MakesSame}
+use Rattle.std.proofs.Common.{ap}
+use Rattle.bricks_main.specs.Path.{row_stages, items_in}
 use Rattle.bricks_main.specs.ProgressView.{progress_view}
 use Rattle.bricks_main.proofs.Paths.{carries_on, other_class}
 use Rattle.bricks_main.proofs.TakeRecord.{ran_waits}

@@ -1,9 +1,8 @@
-use Rattle.std.proofs.Common.{◌≡◌, ℕ, List, Some, None, ap, sym, ◌∙◌}
-use Rattle.brick_spec.specs.Item.{Item}
+use Rattle.std.proofs.Common.{◌≡◌, ℕ, Some, None, ap, sym, ◌∙◌}
 use Rattle.brick_spec.specs.Match.{Match}
-use Rattle.brick_spec.specs.Stage.{ItemStage, match_stage, stage_of}
+use Rattle.brick_spec.specs.Stage.{match_stage, stage_of}
 use Rattle.bricks_main.specs.View.{stage_view, protocol_view}
-use Rattle.map_filter.proofs.Protocols.{match_of_protocol, only_is_match}
+use Rattle.map_filter.proofs.Protocols.{only_is_match}
 use Rattle.bricks_main.proofs.path.operator_of.Goals as goal
 
 pub returns-in-Only : goal.returns-in-Only

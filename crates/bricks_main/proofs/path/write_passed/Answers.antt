@@ -1,7 +1,3 @@
-use Rattle.std.proofs.Common.{◌≡◌, ◌≤◌, List, ℕ, length, get_or, map, subst, sym, ◌∙◌, ap}
-use Rattle.brick_spec.specs.Item.{Item}
-use Rattle.packet_owner.specs.Packet.{packet_item}
-use Rattle.bricks_main.specs.Path.{item_in_passed}
 use Rattle.bricks_main.proofs.BatchRuns.{short_at}
 use Rattle.bricks_main.proofs.path.write_passed.Goals as goal
 

@@ -1,4 +1,4 @@
-use Rattle.std.proofs.Common.{List, [], ap, ◌∙◌, map, length, subst, arith}
+use Rattle.std.proofs.Common.{List, [], ap, ◌∙◌, map, subst, arith}
 use Rattle.std.proofs.lemmas.List.{length-map}
 use Rattle.brick_spec.specs.Item.{items_text}
 use Rattle.brick_spec.specs.Capture.{Contents}
@@ -7,7 +7,6 @@ use Rattle.bricks_main.specs.declared.chain.Stage.{Stage}
 use Rattle.bricks_main.specs.View.{chain_view, stage_view}
 use Rattle.bricks_main.specs.Path.{row_stages, items_in, item_in_work}
 use Rattle.bricks_main.specs.PathView.{HasRoomFor, Carries, WaitsIn}
-use Rattle.bricks_main.specs.Progress.{first}
 use Rattle.bricks_main.specs.ProgressView.{progress_view}
 use Rattle.bricks_main.proofs.TakeRecord.{few, nothing_waits, ran_waits, all_first, all_made}
 use Rattle.bricks_main.proofs.tenant.take_records.Goals as goal

@@ -1,4 +1,4 @@
-use Rattle.std.proofs.Common.{◌≡◌, map}
+use Rattle.std.proofs.Common.{map}
 use Rattle.brick_spec.specs.Stage.{stage_of}
 use Rattle.bricks_main.specs.View.{chain_view, stage_view}
 use Rattle.bricks_main.specs.Progress.{first}
