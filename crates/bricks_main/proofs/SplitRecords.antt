@@ -12,7 +12,7 @@ use Rattle.pcap_io.specs.View.{item_view}
 use Rattle.pcap_io.specs.declared.item.Item.{Item}
 use Rattle.bricks_main.specs.Plain.{IsItemOf}
 use Rattle.bricks_main.specs.Progress.{first}
-use Rattle.bricks_main.proofs.Progress.{kept_more, kept_same, fits, too_big, not_too_big, is_fit, is_too_big, is_no_fit}
+use Rattle.bricks_main.proofs.MoreRecords.{kept_more, kept_same, fits, too_big, not_too_big, is_fit, is_too_big, is_no_fit}
 
 pub split_fits : (chain : Chain) (c : Contents) (k : ℕ) (items more : List Item) (dropped : List Reason) (item : Item)
     → map item_view items ≡ accepted_items chain (first k c) → map reason_view dropped ≡ map (λ i. Big) (big_items chain (first k c))

@@ -1,9 +1,11 @@
 pub mod View
 pub mod ChainFile
+pub mod Path
+pub mod PathView
 pub mod Plain
 pub mod Progress
 pub mod ProgressView
-pub mod Row
+pub mod InPlace
 pub mod Run
 pub mod WholeFiles
 pub mod Chains

@@ -1,9 +1,10 @@
 -- What was made of the first records of a capture.
-use Rattle.std.specs.Prelude.{◌≡◌, ℕ, ◌+◌, Bool, List, [], ◌∷◌, ◌++◌, take, length, slice_index, slice_set}
+use Rattle.std.specs.Prelude.{◌≡◌, ℕ, ◌+◌, Bool, List, [], ◌∷◌, ◌++◌, take, length, slice_index, slice_set, map}
 use Rattle.brick_spec.specs.Capture.{Contents}
 use Rattle.brick_spec.specs.Item.{Item, items_text}
 use Rattle.brick_spec.specs.Chain.{Chain}
-use Rattle.brick_spec.specs.Tenant.{accepted_items, made, reasons, counts_of, output_text}
+use Rattle.brick_spec.specs.Stage.{Big, stage_of, through}
+use Rattle.brick_spec.specs.Tenant.{accepted_items, big_items, made, reasons, counts_of, output_text}
 
 -- the first k records
 abbrev pub first : ℕ → Contents → Contents
@@ -29,3 +30,12 @@ pub record WritesItem (item : Item) (old new : SoFar) : Type 0 where
   pub accepted : new.accepted ≡ old.accepted
   pub drops : new.drops ≡ old.drops
   pub passed : new.passed ≡ old.passed + 1
+
+-- what the chain made of the accepted items, where the last of them wait, and of the Big ones
+pub record Waits (chain : Chain) (c : Contents) (made : SoFar) (waiting : List Item) : Type 0 where
+  pub done : List Item
+  pub split : accepted_items chain c ≡ done ++ waiting
+  pub text : made.text ≡ items_text c.nano (through (map stage_of chain.stages) done).passed
+  pub accepted : made.accepted ≡ length (accepted_items chain c)
+  pub drops : made.drops ≡ counts_of (map (λ i. Big) (big_items chain c) ++ (through (map stage_of chain.stages) done).dropped)
+  pub passed : made.passed ≡ length (through (map stage_of chain.stages) done).passed

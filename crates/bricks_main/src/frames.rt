@@ -1,10 +1,10 @@
-//! The stages of a chain, on the frame of an item in place.
-ghost use Rattle.std.specs.Prelude.{◌≡◌, ℕ, ◌+◌, ◌-◌, ◌≤◌, ◌<◌, List, length, Option, Some, None, MatchOption, map};
+//! A stage of a chain, on the frame of an item in place.
+ghost use Rattle.std.specs.Prelude.{◌≡◌, ℕ, ◌+◌, ◌-◌, ◌≤◌, ◌<◌, List, length, Option, Some, None, MatchOption, is_none};
 ghost use Rattle.brick_spec.specs.Item.{Item};
 ghost use Rattle.brick_spec.specs.Layer.{Layer, ip4_layer};
 ghost use Rattle.brick_spec.specs.Stage.{stage_of, ttl_stage, only_stage};
 ghost use Rattle.bricks_main.specs.View.{protocol_view, stage_view};
-ghost use Rattle.bricks_main.specs.Row.{one_through, with_frame};
+ghost use Rattle.bricks_main.specs.InPlace.{with_frame};
 
 use crate::chain::{Protocol, Stage};
 use brick_base::{Proto, Reason};
@@ -68,15 +68,9 @@ pub fn apply_stage(stage: Stage, frame: &mut [u8]) -> Option<Reason>
     }
 }
 
-/// Applies the stages to a frame in place, one after another until one drops it.
-pub fn apply_stages(stages: &[Stage], frame: &mut [u8]) -> Option<Reason>
-    ensures { (i : Item) → i.frame ≡ frame.old → one_through (map stage_of (map stage_view stages.now)) i ≡ with_frame i frame.new result }
+/// Whether the frame has no IPv4 layer.
+pub fn is_other(frame: &[u8]) -> bool
+    ensures { result ≡ is_none (ip4_layer frame.now) }
 {
-    for stage in stages {
-        let dropped = apply_stage(*stage, frame);
-        if dropped.is_some() {
-            return dropped;
-        }
-    }
-    None
+    ip4_header(frame).is_none()
 }

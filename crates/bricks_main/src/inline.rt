@@ -11,9 +11,10 @@ ghost use Rattle.bricks_main.specs.ProgressView.{progress_view};
 
 use crate::chain::{Chain, output_file, refused_file};
 use crate::chains::{ChainsFault, read_chains};
+use crate::progress::Progress;
 use crate::refusal::refusal_of;
 use crate::report::{Line, Outcome, Output, Tally, TenantEnd};
-use crate::tenant::{Progress, take_records};
+use crate::tenant::take_records;
 use crate::whole_files::{ReadFault, Text, read_whole, write_texts};
 use brick_base::NoMemory;
 use pcap_io::Capture;

@@ -1,18 +1,17 @@
 -- One record more.
-use Rattle.std.proofs.Common.{◌≡◌, ℕ, zero, suc, ◌+◌, ◌<◌, ◌≤◌, Bool, true, false, not, nat_le, nat_lt, nat_eq, cond, List, [], ◌∷◌, ◌++◌, length, map, take, Some, Result, Ok, Err, refl, sym, ◌∙◌, ap, arith, length-append, slice_get, slice_index}
+use Rattle.std.proofs.Common.{◌≡◌, ℕ, zero, suc, ◌+◌, ◌<◌, ◌≤◌, Bool, true, false, not, nat_le, nat_lt, nat_eq, cond, List, [], ◌∷◌, ◌++◌, length, take, Some, Result, Ok, Err, refl, sym, ◌∙◌, ap, arith, length-append, slice_get, slice_index}
 use Rattle.std.specs.Prelude.{filter, count_by}
-use Rattle.std.proofs.lemmas.List.{append-nil, map-append, length-map}
+use Rattle.std.proofs.lemmas.List.{append-nil}
 use Rattle.std.proofs.lemmas.Grind.{flat_map-append}
 use Rattle.std.proofs.lemmas.List.Elements.{filter-append}
 use Rattle.std.proofs.lemmas.Bool.Decides.{nat_tests}
 use Rattle.std.proofs.lemmas.List.Sums.{sum_by-append, count_by-le-length}
 use Rattle.brick_spec.specs.Capture.{Entry, Contents}
-use Rattle.brick_spec.specs.Item.{Item, item_of, items_from, items_text}
-use Rattle.brick_spec.specs.Stage.{Reason, Big, Unparsed, Fire, NoRoute, Ttl, NatFull, Filter, NoGroup, Reach, ItemStage, stage_of, kept, reason_in, applied, through}
+use Rattle.brick_spec.specs.Item.{Item, item_of, items_from}
+use Rattle.brick_spec.specs.Stage.{Reason, Big, Unparsed, Fire, NoRoute, Ttl, NatFull, Filter, NoGroup, Reach, ItemStage, kept, reason_in, applied, through}
 use Rattle.brick_spec.specs.Chain.{Chain}
-use Rattle.brick_spec.specs.Tenant.{items_of, accepted_items, big_items, made, reasons, reason_place, is_at, counts_of}
-use Rattle.bricks_main.specs.Row.{if_kept, one_through}
-use Rattle.bricks_main.specs.Progress.{first, so_far, one_more_at}
+use Rattle.brick_spec.specs.Tenant.{items_of, reason_place, is_at, counts_of}
+use Rattle.bricks_main.specs.Progress.{first, one_more_at}
 
 -- A ROW OF STAGES, ON ONE ITEM MORE
 
@@ -21,7 +20,7 @@ through-append [] xs ys = refl
 through-append (s ∷ ss) xs ys =
     ap (λ l. (through ss l).passed) (flat_map-append (λ i. kept (s i)) xs ys) ∙ through-append ss (applied s xs).passed (applied s ys).passed
 
-count_by-append : (p : Reason → Bool) (xs ys : List Reason) → count_by p (xs ++ ys) ≡ count_by p xs + count_by p ys
+pub count_by-append : (p : Reason → Bool) (xs ys : List Reason) → count_by p (xs ++ ys) ≡ count_by p xs + count_by p ys
 count_by-append p xs ys = sum_by-append (λ r. cond (p r) 1 0) xs ys
 
 pub through-count : (p : Reason → Bool) (ss : List ItemStage) (xs ys : List Item) → count_by p (through ss (xs ++ ys)).dropped ≡ count_by p (through ss xs).dropped + count_by p (through ss ys).dropped
@@ -45,24 +44,6 @@ passed_nothing (s ∷ ss) = passed_nothing ss
 pub dropped_nothing : (ss : List ItemStage) → (through ss []).dropped ≡ []
 dropped_nothing [] = refl
 dropped_nothing (s ∷ ss) = dropped_nothing ss
-
-passed_by : (ss : List ItemStage) → ((i : Item) → (through ss (i ∷ [])).passed ≡ kept (one_through ss i)) → (r : Result Item Reason)
-    → (through ss (kept r ++ [])).passed ≡ kept (if_kept (one_through ss) r)
-passed_by ss rest (Ok j) = rest j
-passed_by ss rest (Err r) = passed_nothing ss
-
-pub passed_one : (ss : List ItemStage) (i : Item) → (through ss (i ∷ [])).passed ≡ kept (one_through ss i)
-passed_one [] i = refl
-passed_one (s ∷ ss) i = passed_by ss (λ j. passed_one ss j) (s i)
-
-dropped_by : (ss : List ItemStage) → ((i : Item) → (through ss (i ∷ [])).dropped ≡ reason_in (one_through ss i)) → (r : Result Item Reason)
-    → (reason_in r ++ []) ++ (through ss (kept r ++ [])).dropped ≡ reason_in (if_kept (one_through ss) r)
-dropped_by ss rest (Ok j) = rest j
-dropped_by ss rest (Err r) = ap (λ l. r ∷ l) (dropped_nothing ss)
-
-pub dropped_one : (ss : List ItemStage) (i : Item) → (through ss (i ∷ [])).dropped ≡ reason_in (one_through ss i)
-dropped_one [] i = refl
-dropped_one (s ∷ ss) i = dropped_by ss (λ j. dropped_one ss j) (s i)
 
 -- COUNTS
 
@@ -183,98 +164,9 @@ kept_same p c k e h goes =
     ap (filter p) (items_first c k e h) ∙ (filter-append p (items_of (first k c)) (item_of k e ∷ [])
     ∙ (ap (λ l. filter p (items_of (first k c)) ++ l) (filter_none p (item_of k e) goes) ∙ append-nil (filter p (items_of (first k c)))))
 
--- a record that is Big
-pub big_more : (chain : Chain) (c : Contents) (k : ℕ) (e : Entry) → slice_get c.entries k ≡ Some e → chain.bytes < length e.frame
-    → so_far chain (first (k + 1) c) ≡ record (so_far chain (first k c)) { drops = one_more_at 0 (so_far chain (first k c)).drops }
-big_more chain c k e h big =
-    let ss = map stage_of chain.stages in
-    let same : accepted_items chain (first (k + 1) c) ≡ accepted_items chain (first k c) = kept_same (fits chain) c k e h (is_no_fit (length e.frame) chain.bytes big) in
-    let more : big_items chain (first (k + 1) c) ≡ big_items chain (first k c) ++ item_of k e ∷ [] = kept_more (too_big chain) c k e h (is_too_big (length e.frame) chain.bytes big) in
-    let bigs : List Reason = map (λ i. Big) (big_items chain (first k c)) in
-    let left : map (λ i. Big) (big_items chain (first (k + 1) c)) ≡ bigs ++ Big ∷ [] = ap (map (λ i. Big)) more ∙ map-append (λ i. Big) (big_items chain (first k c)) (item_of k e ∷ []) in
-    let dropped : List Reason = (made chain (first k c)).dropped in
-    let whole : reasons chain (first (k + 1) c) ≡ (bigs ++ Big ∷ []) ++ dropped = λ i. left i ++ (through ss (same i)).dropped in
-    let counts : counts_of (reasons chain (first (k + 1) c)) ≡ one_more_at 0 (counts_of (reasons chain (first k c))) =
-    counts_more Big (reasons chain (first k c)) (reasons chain (first (k + 1) c)) (λ p. count_big p bigs dropped (reasons chain (first (k + 1) c)) whole) in
-    λ i. record { text = items_text c.nano (through ss (same i)).passed; accepted = length (same i); drops = counts i; passed = length (through ss (same i)).passed }
-  where
-    count_big : (p : ℕ) (bigs dropped all : List Reason) → all ≡ (bigs ++ Big ∷ []) ++ dropped → count_by (is_at p) all ≡ count_by (is_at p) (bigs ++ dropped) + count_by (is_at p) (Big ∷ [])
-    count_big p bigs dropped all e =
-        let a = count_by-append (is_at p) (bigs ++ Big ∷ []) dropped in
-        let b = count_by-append (is_at p) bigs (Big ∷ []) in
-        let d = count_by-append (is_at p) bigs dropped in
-        let t : count_by (is_at p) all ≡ count_by (is_at p) ((bigs ++ Big ∷ []) ++ dropped) = ap (count_by (is_at p)) e in
-        omega arith
-
--- what the chain made of one accepted record more
-record AcceptedMore (chain : Chain) (c : Contents) (k : ℕ) (i : Item) (r : Result Item Reason) : Type 0 where
-  items : accepted_items chain (first (k + 1) c) ≡ accepted_items chain (first k c) ++ i ∷ []
-  passed : (made chain (first (k + 1) c)).passed ≡ (made chain (first k c)).passed ++ kept r
-  count : (p : ℕ) → count_by (is_at p) (reasons chain (first (k + 1) c)) ≡ count_by (is_at p) (reasons chain (first k c)) + count_by (is_at p) (reason_in r)
-
-accepted_more : (chain : Chain) (c : Contents) (k : ℕ) (e : Entry) (r : Result Item Reason) → slice_get c.entries k ≡ Some e → length e.frame ≤ chain.bytes
-    → one_through (map stage_of chain.stages) (item_of k e) ≡ r → AcceptedMore chain c k (item_of k e) r
-accepted_more chain c k e r h fit is =
-    let ss = map stage_of chain.stages in
-    let i = item_of k e in
-    let old = accepted_items chain (first k c) in
-    let more : accepted_items chain (first (k + 1) c) ≡ old ++ i ∷ [] = kept_more (fits chain) c k e h (is_fit (length e.frame) chain.bytes fit) in
-    let same : big_items chain (first (k + 1) c) ≡ big_items chain (first k c) = kept_same (too_big chain) c k e h (not_too_big (length e.frame) chain.bytes fit) in
-    record {
-      items = more;
-      passed = ap (λ l. (through ss l).passed) more ∙ (through-append ss old (i ∷ []) ∙ ap (λ l. (through ss old).passed ++ l) (passed_one ss i ∙ ap kept is));
-      count = λ p.
-          let bigs : List Reason = map (λ x. Big) (big_items chain (first k c)) in
-          let all : reasons chain (first (k + 1) c) ≡ bigs ++ (through ss (old ++ i ∷ [])).dropped = λ j. map (λ x. Big) (same j) ++ (through ss (more j)).dropped in
-          let t : count_by (is_at p) (reasons chain (first (k + 1) c)) ≡ count_by (is_at p) (bigs ++ (through ss (old ++ i ∷ [])).dropped) = ap (count_by (is_at p)) all in
-          let a = count_by-append (is_at p) bigs (through ss (old ++ i ∷ [])).dropped in
-          let b = count_by-append (is_at p) bigs (through ss old).dropped in
-          let d = through-count (is_at p) ss old (i ∷ []) in
-          let o : count_by (is_at p) (through ss (i ∷ [])).dropped ≡ count_by (is_at p) (reason_in r) = ap (count_by (is_at p)) (dropped_one ss i ∙ ap reason_in is) in
-          omega arith;
-    }
-
-length_more : (xs : List Item) (x : Item) → length (xs ++ x ∷ []) ≡ length xs + 1
-length_more xs x = length-append xs (x ∷ [])
-
--- a record whose item passes
-pub passes_more : (chain : Chain) (c : Contents) (k : ℕ) (e : Entry) (j : Item) → slice_get c.entries k ≡ Some e → length e.frame ≤ chain.bytes
-    → one_through (map stage_of chain.stages) (item_of k e) ≡ Ok j
-    → so_far chain (first (k + 1) c) ≡ record {
-      text = items_text c.nano ((made chain (first k c)).passed ++ j ∷ []);
-      accepted = (so_far chain (first k c)).accepted + 1;
-      drops = (so_far chain (first k c)).drops;
-      passed = (so_far chain (first k c)).passed + 1;
-    }
-passes_more chain c k e j h fit is =
-    let m = accepted_more chain c k e (Ok j) h fit is in
-    let accepted = ap length m.items ∙ length_more (accepted_items chain (first k c)) (item_of k e) in
-    let drops = counts_same (reasons chain (first k c)) (reasons chain (first (k + 1) c)) (λ p. m.count p ∙ plus_none (count_by (is_at p) (reasons chain (first k c)))) in
-    let passed = ap length m.passed ∙ length_more (made chain (first k c)).passed j in
-    λ i. record { text = items_text c.nano (m.passed i); accepted = accepted i; drops = drops i; passed = passed i }
-  where
-    plus_none : (n : ℕ) → n + 0 ≡ n
-    plus_none n = omega arith
-
--- a record whose item is dropped
-pub drops_more : (chain : Chain) (c : Contents) (k : ℕ) (e : Entry) (r : Reason) → slice_get c.entries k ≡ Some e → length e.frame ≤ chain.bytes
-    → one_through (map stage_of chain.stages) (item_of k e) ≡ Err r
-    → so_far chain (first (k + 1) c) ≡ record {
-      text = (so_far chain (first k c)).text;
-      accepted = (so_far chain (first k c)).accepted + 1;
-      drops = one_more_at (reason_place r) (so_far chain (first k c)).drops;
-      passed = (so_far chain (first k c)).passed;
-    }
-drops_more chain c k e r h fit is =
-    let m = accepted_more chain c k e (Err r) h fit is in
-    let accepted = ap length m.items ∙ length_more (accepted_items chain (first k c)) (item_of k e) in
-    let drops = counts_more r (reasons chain (first k c)) (reasons chain (first (k + 1) c)) m.count in
-    let same : (made chain (first (k + 1) c)).passed ≡ (made chain (first k c)).passed = m.passed ∙ append-nil (made chain (first k c)).passed in
-    λ i. record { text = items_text c.nano (same i); accepted = accepted i; drops = drops i; passed = length (same i) }
-
 -- NO COUNT IS GREATER THAN THE NUMBER OF RECORDS
 
-length_items : (j : ℕ) (es : List Entry) → length (items_from j es) ≡ length es
+pub length_items : (j : ℕ) (es : List Entry) → length (items_from j es) ≡ length es
 length_items j [] = refl
 length_items j (e ∷ es) = ap suc (length_items (suc j) es)
 
@@ -296,7 +188,7 @@ applied_all s (x ∷ xs) = by (s x) (applied_all s xs)
     by (Ok j) h = omega arith
     by (Err r) h = omega arith
 
-through_all : (ss : List ItemStage) (xs : List Item) → length (through ss xs).passed + length (through ss xs).dropped ≡ length xs
+pub through_all : (ss : List ItemStage) (xs : List Item) → length (through ss xs).passed + length (through ss xs).dropped ≡ length xs
 through_all [] xs = omega arith
 through_all (s ∷ ss) xs =
     let a = applied_all s xs in
@@ -305,7 +197,7 @@ through_all (s ∷ ss) xs =
     omega arith
 
 -- the accepted records and the Big ones are all
-fits_or_big : (chain : Chain) (xs : List Item) → length (filter (fits chain) xs) + length (filter (too_big chain) xs) ≡ length xs
+pub fits_or_big : (chain : Chain) (xs : List Item) → length (filter (fits chain) xs) + length (filter (too_big chain) xs) ≡ length xs
 fits_or_big chain [] = refl
 fits_or_big chain (x ∷ xs) = by (nat_le (length x.frame) chain.bytes) (nat_lt chain.bytes (length x.frame)) (other (length x.frame) chain.bytes) (fits_or_big chain xs)
   where
@@ -319,12 +211,7 @@ fits_or_big chain (x ∷ xs) = by (nat_le (length x.frame) chain.bytes) (nat_lt 
     by false true e h = omega arith
     by false false e h = absurd cc
 
-pub record Bounds (chain : Chain) (c : Contents) : Type 0 where
-  pub accepted : (so_far chain c).accepted ≤ length c.entries
-  pub passed : (so_far chain c).passed ≤ length c.entries
-  pub drops : (p : ℕ) → slice_index (so_far chain c).drops p ≤ length c.entries
-
-counts_at : (rs : List Reason) (p : ℕ) → slice_index (counts_of rs) p ≤ length rs
+pub counts_at : (rs : List Reason) (p : ℕ) → slice_index (counts_of rs) p ≤ length rs
 counts_at rs zero = count_by-le-length _ rs
 counts_at rs (suc zero) = count_by-le-length _ rs
 counts_at rs (suc (suc zero)) = count_by-le-length _ rs
@@ -335,16 +222,3 @@ counts_at rs (suc (suc (suc (suc (suc (suc zero)))))) = count_by-le-length _ rs
 counts_at rs (suc (suc (suc (suc (suc (suc (suc zero))))))) = count_by-le-length _ rs
 counts_at rs (suc (suc (suc (suc (suc (suc (suc (suc zero)))))))) = count_by-le-length _ rs
 counts_at rs (suc (suc (suc (suc (suc (suc (suc (suc (suc p))))))))) = omega arith
-
-pub bounds : (chain : Chain) (c : Contents) → Bounds chain c
-bounds chain c =
-    let all = length_items 0 c.entries in
-    let apart = fits_or_big chain (items_of c) in
-    let made_all = through_all (map stage_of chain.stages) (accepted_items chain c) in
-    let bigs = length-map (big_items chain c) (λ (x : Item). Big) in
-    let both = length-append (map (λ (x : Item). Big) (big_items chain c)) (made chain c).dropped in
-    record {
-      accepted = omega arith;
-      passed = omega arith;
-      drops = λ p. let one = counts_at (reasons chain c) p in omega arith;
-    }
