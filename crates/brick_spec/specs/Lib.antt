@@ -32,3 +32,7 @@ pub mod AcceptedWords
 pub mod GroupOutput
 pub mod AddressTranslation
 pub mod PacketizedWindow
+pub mod ChainText
+pub mod ChainFault
+pub mod ChainSet
+pub mod ChainWalk

@@ -1,0 +1,2 @@
+//! Chain files.
+#![tactic(auto)]
