@@ -89,6 +89,27 @@ outputs_of groups = distinct_of (map (λ g. g.into) groups)
 abbrev pub group_with : List (List ℕ) → NamedGroup → Group
 group_with outputs g = record { name = g.name; wanted = g.wanted; stages = g.stages; output = place_of outputs g.into }
 
+-- a tenant's numbers and words
+pub record Settings : Type 0 where
+  pub buffers : ℕ
+  pub bytes : ℕ
+  pub dry : Dry
+  pub unparsed : Unparsed
+
+-- the chain of a tenant with these groups
+unfoldable pub chain_of : List ℕ → List ℕ → Settings → List Stage → List NamedGroup → Chain
+chain_of name capture settings stages groups = record {
+  name = name;
+  capture = capture;
+  buffers = settings.buffers;
+  bytes = settings.bytes;
+  dry = settings.dry;
+  unparsed = settings.unparsed;
+  stages = stages;
+  groups = map (group_with (outputs_of groups)) groups;
+  outputs = outputs_of groups;
+}
+
 -- FILES
 
 -- the files of a tenant, in the order in which they are written: one for each output, and then that of the refused records

@@ -11,7 +11,7 @@ use Rattle.brick_spec.specs.Name.{is_name}
 use Rattle.brick_spec.specs.Match.{Match, Prefix}
 use Rattle.brick_spec.specs.ChainText.{prefix_of}
 use Rattle.brick_spec.specs.ChainFault.{ChainFault, NotToml, Missing, Unknown, Range, Name, TooManyTenants, Collides, TooLong, ◌>>=◌, or_fault}
-use Rattle.brick_spec.specs.ChainSet.{Dry, DryWait, DryDrop, Unparsed, UnparsedPass, UnparsedDrop, Stage, Ttl, SetTos, Only, NamedGroup, Group, Chain, is_among, outputs_of, group_with, run_files}
+use Rattle.brick_spec.specs.ChainSet.{Dry, DryWait, DryDrop, Unparsed, UnparsedPass, UnparsedDrop, Stage, Ttl, SetTos, Only, NamedGroup, Settings, Chain, is_among, chain_of, run_files}
 
 abbrev pub Text : Type 0
 Text = List ℕ
@@ -204,7 +204,7 @@ groups_in place d = array_in place (codes "group") 1 most_groups d >>= each (gro
 
 -- TENANTS
 
-abbrev pub tenant_row : List Text
+unfoldable pub tenant_row : List Text
 tenant_row = codes "name" ∷ codes "capture" ∷ codes "buffers" ∷ codes "bytes" ∷ codes "dry" ∷ codes "unparsed" ∷ codes "stages" ∷ codes "group" ∷ []
 
 -- a text of 1 to 255 bytes
@@ -227,31 +227,36 @@ abbrev pub unparsed_or_pass : ℕ → Option Data → Result Unparsed ChainFault
 unparsed_or_pass place None = Ok UnparsedPass
 unparsed_or_pass place (Some d) = word_from place (codes "unparsed") unparsed_of d
 
-unfoldable pub tenant_values : ℕ → List Text → Members → Result Chain ChainFault
-tenant_values place earlier ms = do
-  _ ← known place tenant_row ms
-  named ← required place (codes "name") ms
-  name ← name_in place (codes "name") earlier named
-  captured ← required place (codes "capture") ms
-  capture ← capture_in place captured
+-- the numbers and words
+unfoldable pub settings_in : ℕ → Members → Result Settings ChainFault
+settings_in place ms = do
   buffers ← number_or place (codes "buffers") 1 1024 256 (get_member (codes "buffers") ms)
   bytes ← number_or place (codes "bytes") 64 65600 65600 (get_member (codes "bytes") ms)
   dry ← dry_or_wait place (get_member (codes "dry") ms)
   unparsed ← unparsed_or_pass place (get_member (codes "unparsed") ms)
-  stages ← stages_at place (get_member (codes "stages") ms)
-  grouped ← required place (codes "group") ms
-  groups ← groups_in place grouped
-  Ok (record {
-    name = name;
-    capture = capture;
-    buffers = buffers;
-    bytes = bytes;
-    dry = dry;
-    unparsed = unparsed;
-    stages = stages;
-    groups = map (group_with (outputs_of groups)) groups;
-    outputs = outputs_of groups;
-  })
+  Ok (record { buffers = buffers; bytes = bytes; dry = dry; unparsed = unparsed })
+
+unfoldable pub tenant_name : ℕ → List Text → Members → Result Text ChainFault
+tenant_name place earlier ms = required place (codes "name") ms >>= name_in place (codes "name") earlier
+
+unfoldable pub tenant_capture : ℕ → Members → Result Text ChainFault
+tenant_capture place ms = required place (codes "capture") ms >>= capture_in place
+
+unfoldable pub tenant_stages : ℕ → Members → Result (List Stage) ChainFault
+tenant_stages place ms = stages_at place (get_member (codes "stages") ms)
+
+unfoldable pub tenant_groups : ℕ → Members → Result (List NamedGroup) ChainFault
+tenant_groups place ms = required place (codes "group") ms >>= groups_in place
+
+unfoldable pub tenant_values : ℕ → List Text → Members → Result Chain ChainFault
+tenant_values place earlier ms = do
+  _ ← known place tenant_row ms
+  name ← tenant_name place earlier ms
+  capture ← tenant_capture place ms
+  settings ← settings_in place ms
+  stages ← tenant_stages place ms
+  groups ← tenant_groups place ms
+  Ok (chain_of name capture settings stages groups)
 
 unfoldable pub tenant_at : List Chain → Data → Result Chain ChainFault
 tenant_at before d = table_in 0 (codes "tenant") d >>= tenant_values (length before + 1) (map (λ c. c.name) before)
