@@ -75,12 +75,7 @@ fn first_taken(
 
 /// No file of the run has the name of the chain file `own` or of a capture.
 #[tactic(auto, unfolding(brick_spec::specs::ChainWalk::apart))]
-pub(crate) fn apart(
-    alloc: Global,
-    own: &str,
-    out: &str,
-    chains: &[Chain],
-) -> Result<(), ChainFault>
+pub(crate) fn apart(alloc: Global, own: &str, out: &str, chains: &[Chain]) -> Result<(), ChainFault>
     ensures { Gives (λ _. tt) result (spec.apart own.now out.now (map chain_view chains.now)) }
 {
     match first_taken(alloc, own, out, chains)? {

@@ -5,6 +5,7 @@ mod chain;
 mod collisions;
 mod files;
 mod groups;
+mod laws;
 mod matches;
 mod named;
 mod outputs;
@@ -12,10 +13,13 @@ mod set;
 mod settings;
 mod stages;
 mod tenants;
+#[cfg(test)]
+mod tests;
 mod words;
 
 pub use chain::{Chain, Dry, Group, Unparsed};
 pub use chain_text::{ChainFault, fault_text};
 pub use files::{output_file, refused_file};
+pub use laws::{samples, texts};
 pub use set::ChainSet;
 pub use stages::Stage;

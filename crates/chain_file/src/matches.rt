@@ -23,11 +23,7 @@ fn protocol_of(text: &str) -> Option<u8>
     }
 }
 
-fn protocol_at(
-    alloc: Global,
-    place: u32,
-    value: Option<&Value>,
-) -> Result<Option<u8>, ChainFault>
+fn protocol_at(alloc: Global, place: u32, value: Option<&Value>) -> Result<Option<u8>, ChainFault>
     ensures { Gives (λ p. p) result (spec.protocol_at place (option_map (λ v. view v.now) value.entry)) }
 {
     let Some(value) = value else {

@@ -130,5 +130,9 @@ pub(crate) fn stages_at(
     let Some(value) = value else {
         return Ok(Vec::new(alloc));
     };
-    stages(alloc, place, array_in(alloc, place, "stages", 0, 32, value)?)
+    stages(
+        alloc,
+        place,
+        array_in(alloc, place, "stages", 0, 32, value)?,
+    )
 }

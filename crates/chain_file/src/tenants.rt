@@ -16,8 +16,7 @@ use crate::settings::settings_in;
 use crate::stages::{Stage, stages_at};
 use brick_base::Name;
 use chain_text::{
-    ChainFault, count_of, is_name, known, number_in, range, required, table_in, text_in,
-    value_at,
+    ChainFault, count_of, is_name, known, number_in, range, required, table_in, text_in, value_at,
 };
 use std::alloc::Global;
 use toml::value::Array;
@@ -39,12 +38,7 @@ fn has_tenant(chains: &[Chain], name: &str) -> bool
 
 /// A name that no earlier tenant has.
 #[tactic(auto, unfolding(brick_spec::specs::ChainWalk::name_in))]
-fn name_in(
-    alloc: Global,
-    place: u32,
-    earlier: &[Chain],
-    value: &Value,
-) -> Result<Name, ChainFault>
+fn name_in(alloc: Global, place: u32, earlier: &[Chain], value: &Value) -> Result<Name, ChainFault>
     ensures value { Gives (λ n. n) result (spec.name_in place (codes "name") (chain_names earlier.now) (view value.now)) }
     ensures named { IfOk result (λ n. IsTrue (is_name n)) }
 {
