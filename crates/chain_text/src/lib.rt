@@ -7,6 +7,8 @@ mod fault_line;
 mod fields;
 mod names;
 mod numbers;
+#[cfg(test)]
+mod tests;
 mod tree;
 
 pub use addresses::{address_of, prefix_of};
