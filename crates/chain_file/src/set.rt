@@ -1,0 +1,68 @@
+//! The chains of a chain file.
+
+ghost use Rattle.std.specs.Prelude.{◌≡◌, ◌<◌, ◌≤◌, Some, length, map};
+ghost use Rattle.std.specs.List.{slice_get};
+ghost use Rattle.chain_spec.specs.ChainWalk as spec;
+ghost use Rattle.chain_text.specs.Gives.{Gives};
+ghost use Rattle.chain_file.specs.View.{chain_view};
+
+use crate::chain::Chain;
+use crate::collisions::apart;
+use crate::tenants::top;
+use chain_text::{ChainFault, table_of};
+use std::alloc::Global;
+use std::marker::Model;
+
+/// The chains of an accepted chain file: 1 to 16, one for each tenant. Contracts see the list of them.
+#[derive(Drop)]
+pub struct ChainSet {
+    chains: Vec<Chain>,
+}
+
+impl Model for ChainSet {
+    ghost use Rattle.std.specs.Prelude.{◌≤◌, List, length};
+    ghost use Rattle.chain_file.specs.declared.chain.Chain.{Chain};
+
+    ghost Value = { List Chain };
+
+    ghost view = { λ set. set.chains.items };
+
+    ghost invariant = { λ set. (1 ≤ length set.chains.items) × (length set.chains.items ≤ 16) };
+}
+
+impl ChainSet {
+    /// The chains that the bytes of the chain file `own` give for the folder `out`, or the first fault. The bytes are at most
+    /// 1,048,576.
+    #[tactic(auto, unfolding(chain_spec::specs::ChainWalk::read_chains))]
+    pub fn read(alloc: Global, bytes: &[u8], own: &str, out: &str) -> Result<ChainSet, ChainFault>
+        ensures { Gives (map chain_view) result (spec.read_chains own.now out.now bytes.now) }
+    {
+        let table = table_of(alloc, bytes)?;
+        let chains = top(alloc, &table)?;
+        apart(alloc, own, out, &chains)?;
+        Ok(ChainSet { chains })
+    }
+
+    /// How many tenants there are, 1 to 16.
+    pub fn tenants(&self) -> u32
+        ensures count { result ≡ length self.now }
+        ensures some { (1 ≤ result) × (result ≤ 16) }
+    {
+        self.chains.len() as u32
+    }
+
+    /// The chain of a tenant.
+    pub fn chain(&self, tenant: u32) -> &Chain
+        requires { tenant < length self.now }
+        ensures { slice_get self.now tenant ≡ Some result.now }
+    {
+        &self.chains[tenant as usize]
+    }
+
+    /// The chains in their order. Takes no memory.
+    pub fn into_chains(self) -> Vec<Chain>
+        ensures { result.items ≡ self }
+    {
+        self.chains
+    }
+}

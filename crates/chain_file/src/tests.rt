@@ -1,0 +1,69 @@
+use crate::{ChainSet, Dry, Stage, Unparsed, fault_text};
+use std::test::Fail;
+
+const CHAINS: &str =
+    "version = 1\n[[tenant]]\nname = \"a\"\ncapture = \"in.pcap\"\nunparsed = \"drop\"\nstages = [{ stage = \"ttl\" }]\n[[tenant.group]]\nname = \"web\"\n";
+
+#[test]
+fn a_chain_is_read(rt: HostRuntime) -> Result<(), Fail> {
+    match ChainSet::read(rt.alloc(), CHAINS.as_bytes(), "c.toml", "out") {
+        Ok(set) => {
+            let chain = set.chain(0);
+            assert_eq!(rt;
+                (chain.name.as_str(), chain.capture.as_str()),
+                ("a", "in.pcap")
+            );
+            assert_eq!(rt; (chain.buffers, chain.bytes), (256, 65_600));
+            assert_eq!(rt; (chain.dry, chain.unparsed), (Dry::Wait, Unparsed::Drop));
+            assert!(rt; chain.stages.len() == 1 && chain.stages[0] == Stage::Ttl);
+            assert!(rt; chain.outputs.len() == 1 && chain.outputs[0].as_str() == "web");
+        }
+        Err(_) => assert!(rt; false, "the file is accepted"),
+    }
+    Ok(())
+}
+
+#[test]
+fn faults_are_told(rt: HostRuntime) -> Result<(), Fail> {
+    for (text, want) in [
+        ("", "chains: 2 Missing place=0 key=version\n"),
+        ("version = 3\n", "chains: 4 Range place=0 key=version\n"),
+        (
+            "version = 1\nzebra = 1\n",
+            "chains: 3 Unknown place=0 key=zebra\n",
+        ),
+        (
+            "version = 1\n[[tenant]]\nname = \"A\"\n",
+            "chains: 5 Name place=1\n",
+        ),
+        (
+            "version = 1\ntenant = [{}, {}]\n",
+            "chains: 8 TooManyTenants count=2\n",
+        ),
+    ] {
+        match ChainSet::read(rt.alloc(), text.as_bytes(), "c.toml", "out") {
+            Ok(_) => assert!(rt; false, "this file is refused"),
+            Err(fault) => {
+                let line = fault_text(rt.alloc(), &fault)?;
+                assert_eq!(rt; line.as_str(), want);
+            }
+        }
+    }
+    Ok(())
+}
+
+#[test]
+fn a_long_file_is_refused(rt: HostRuntime) -> Result<(), Fail> {
+    let mut bytes: Vec<u8> = Vec::new(rt.alloc());
+    for _ in 0..1_048_577 {
+        bytes.push(b'\n')?;
+    }
+    match ChainSet::read(rt.alloc(), &bytes, "c.toml", "out") {
+        Ok(_) => assert!(rt; false, "this file is refused"),
+        Err(fault) => {
+            let line = fault_text(rt.alloc(), &fault)?;
+            assert_eq!(rt; line.as_str(), "chains: 10 TooLong\n");
+        }
+    }
+    Ok(())
+}

@@ -1,0 +1,4 @@
+pub mod ChainText
+pub mod ChainFault
+pub mod ChainSet
+pub mod ChainWalk

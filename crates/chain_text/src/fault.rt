@@ -1,0 +1,87 @@
+//! Why a chain file is refused.
+
+ghost use Rattle.std.specs.Prelude.{◌≡◌};
+ghost use Rattle.chain_spec.specs.ChainFault as spec;
+ghost use Rattle.chain_text.specs.Gives.{Is};
+ghost use Rattle.chain_text.specs.declared.fault.ChainFault.TheVariants.{NoMemory as OutOfMemory};
+
+use brick_base::{Name, NoMemory};
+use std::alloc::{AllocError, AllocFailed, Global};
+
+/// The first fault of a chain file. The place is 0 in the top table, and t + 1 within tenant t, counted from 0.
+#[derive(Drop)]
+pub enum ChainFault {
+    /// It is no text, or `toml` refuses the text.
+    NotToml,
+    /// A key that has to be there is not.
+    Missing { place: u32, key: Name },
+    /// The least key by bytes that its table does not have.
+    Unknown { place: u32, key: Name },
+    /// A value of the wrong kind, or outside what may stand there.
+    Range { place: u32, key: Name },
+    /// A text that is no name, or a name that stands twice in its array.
+    Name { place: u32 },
+    /// How many tenants there are, where these are too many.
+    TooManyTenants { count: u32 },
+    /// A file of the run has the name of the chain file or of a capture.
+    Collides { name: Name },
+    /// More bytes than are read.
+    TooLong,
+    /// Memory ran out.
+    NoMemory,
+}
+
+impl From<NoMemory> for ChainFault {
+    ghost from_gives = { λ _ e. e ≡ OutOfMemory };
+
+    fn from(_error: NoMemory) -> ChainFault {
+        ChainFault::NoMemory
+    }
+}
+
+impl From<AllocError> for ChainFault {
+    ghost from_gives = { λ _ e. e ≡ OutOfMemory };
+
+    fn from(_error: AllocError) -> ChainFault {
+        ChainFault::NoMemory
+    }
+}
+
+/// The value that was to be stored is dropped.
+impl<T: Drop> From<AllocFailed<T>> for ChainFault {
+    ghost from_gives = { λ _ e. e ≡ OutOfMemory };
+
+    fn from(_error: AllocFailed<T>) -> ChainFault {
+        ChainFault::NoMemory
+    }
+}
+
+/// The key is missing at this place.
+pub fn missing(alloc: Global, place: u32, key: &str) -> ChainFault
+    ensures { Is (spec.Missing place key.now) result }
+{
+    match Name::new(alloc, key) {
+        Ok(key) => ChainFault::Missing { place, key },
+        Err(_) => ChainFault::NoMemory,
+    }
+}
+
+/// The key is unknown at this place.
+pub fn unknown(alloc: Global, place: u32, key: &str) -> ChainFault
+    ensures { Is (spec.Unknown place key.now) result }
+{
+    match Name::new(alloc, key) {
+        Ok(key) => ChainFault::Unknown { place, key },
+        Err(_) => ChainFault::NoMemory,
+    }
+}
+
+/// The key's value is out of range at this place.
+pub fn range(alloc: Global, place: u32, key: &str) -> ChainFault
+    ensures { Is (spec.Range place key.now) result }
+{
+    match Name::new(alloc, key) {
+        Ok(key) => ChainFault::Range { place, key },
+        Err(_) => ChainFault::NoMemory,
+    }
+}
