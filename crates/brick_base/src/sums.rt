@@ -4,7 +4,7 @@ ghost use Rattle.std.specs.Prelude.{◌≡◌, ◌+◌};
 ghost use Rattle.brick_spec.specs.Checksum.{folded, checksum_of, adjusted};
 
 /// The sum of two words, its carry added at the low end.
-#[tactic(auto, using(crate::proofs::Folding::folded_small, crate::proofs::Folding::folded_carry))]
+#[tactic(auto, using(brick_spec::proofs::Checksums::folded_small, brick_spec::proofs::Checksums::folded_carry))]
 fn add_words(a: u16, b: u16) -> u16
     ensures { result ≡ folded (a + b) }
 {
@@ -34,7 +34,7 @@ pub fn checksum(bytes: &[u8]) -> u16
 }
 
 /// The checksum after one word under it has changed from `old` to `new` (RFC 1624, equation 3).
-#[tactic(auto, using(crate::proofs::Folding::folded_again))]
+#[tactic(auto, using(brick_spec::proofs::Checksums::folded_again))]
 pub fn adjust(ck: u16, old: u16, new: u16) -> u16
     ensures { result ≡ adjusted ck old new }
 {

@@ -7,7 +7,7 @@ use std::alloc::Global;
 use std::marker::Model;
 
 /// The name of a tenant, a group or a file. Contracts see its bytes.
-#[derive(Drop)]
+#[derive(Debug, Drop)]
 pub struct Name {
     text: String,
 }

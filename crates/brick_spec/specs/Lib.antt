@@ -14,14 +14,9 @@ pub mod Stage
 pub mod Flow
 pub mod FlowStage
 pub mod Name
-pub mod Chain
-pub mod ChainFile
-pub mod Tenant
-pub mod Report
 pub mod Cause
 pub mod Files
 pub mod Texts
-pub mod Promise
 pub mod Balance
 pub mod Stream
 pub mod FlowClass

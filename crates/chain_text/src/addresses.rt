@@ -3,7 +3,7 @@
 ghost use Rattle.std.specs.Prelude.{◌≡◌, ◌<◌, ◌==◌, IfOk, map, option_map};
 ghost use Rattle.std.specs.List.{slice_split};
 ghost use Rattle.chain_spec.specs.ChainText as spec;
-ghost use Rattle.chain_text.specs.Prefixes.{prefix_view};
+ghost use Rattle.brick_base.specs.PrefixView.{prefix_view};
 
 use crate::numbers::number_of;
 use brick_base::{NoMemory, Prefix};

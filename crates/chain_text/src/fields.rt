@@ -6,7 +6,7 @@ ghost use Rattle.toml.specs.View.{view, table_view, array_view};
 ghost use Rattle.chain_spec.specs.ChainSet.{is_among};
 ghost use Rattle.chain_spec.specs.ChainWalk as spec;
 ghost use Rattle.chain_text.specs.Gives.{Gives};
-ghost use Rattle.chain_text.specs.Prefixes.{prefix_view};
+ghost use Rattle.brick_base.specs.PrefixView.{prefix_view};
 
 use crate::addresses::prefix_of;
 use crate::fault::{ChainFault, missing, range, unknown};

@@ -10,7 +10,7 @@ use Rattle.eth_ip.specs.RightLaws.{StaysRight}
 use Rattle.eth_ip.proofs.FrameLayers.{ip4_layer_says}
 use Rattle.brick_spec.proofs.ByteLists.{IsBytes-range, IsBytes-with_word}
 use Rattle.brick_spec.proofs.Words.{double, word_small, sum-without, word_le_sum, word_at-with_word, with_word-again, word_at-with_other, length-with_word, sum-edited}
-use Rattle.brick_spec.proofs.Checksums.{folded_le, folded-again, adjusted-sum}
+use Rattle.brick_spec.proofs.Checksums.{folded_le, folded_again, adjusted-sum}
 
 -- the sums of the two parts around the checksum make the header's without it
 pub checksum-apart : (h front back : List ℕ) → 12 ≤ length h → front ≡ take 10 h → back ≡ drop 12 h → adjusted (checksum_of front) 65535 (65535 - checksum_of back) ≡ ip4_checksum h
@@ -25,7 +25,7 @@ checksum-apart h front back long f b =
     let plain : (65535 - (65535 - folded s₁)) + (65535 - 65535) + (65535 - (65535 - folded s₂)) ≡ folded s₁ + folded s₂ = omega arith in
     let turned : s₁ + folded s₂ ≡ folded s₂ + s₁ = omega arith in
     let whole : s₂ + s₁ ≡ sum_of_words (with_word h 10 0) = omega arith in
-    ap (λ n. 65535 - n) (ap folded plain ∙ (folded-again s₁ (folded s₂) ∙ (ap folded turned ∙ (folded-again s₂ s₁ ∙ ap folded whole))))
+    ap (λ n. 65535 - n) (ap folded plain ∙ (folded_again s₁ (folded s₂) ∙ (ap folded turned ∙ (folded_again s₂ s₁ ∙ ap folded whole))))
 
 -- What the law asks of a header: it is bytes, it is long enough, and its version is 4.
 pub record IsHeader (h : List ℕ) : Type 0 where

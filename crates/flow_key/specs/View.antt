@@ -1,6 +1,6 @@
 -- Plans, ends and keys of the code as those of the definitions.
 use Rattle.brick_spec.specs.FlowClass as spec
-use Rattle.tcp_udp.specs.PrefixView.{prefix_view}
+use Rattle.brick_base.specs.PrefixView.{prefix_view}
 use Rattle.flow_key.specs.declared.plan.NatPlan.{NatPlan}
 use Rattle.flow_key.specs.declared.key.End.{End}
 use Rattle.flow_key.specs.declared.key.Key.{Key}

@@ -84,16 +84,20 @@ fn flows_are_translated(rt: HostRuntime) -> Result<(), Fail> {
     Ok(())
 }
 
-#[test]
-fn keys_have_two_ends(rt: HostRuntime) -> Result<(), Fail> {
-    let (near, far) = ((0x0a000001, 1000), (0x0a010203, 53));
-    let out = frame(17, near, far);
-    let back = frame(17, far, near);
-    let tcp = frame(6, near, far);
-    let icmp = frame(1, near, far);
+/// The end of an address and a port.
+const NEAR: (u32, u16) = (0x0a000001, 1000);
+
+const FAR: (u32, u16) = (0x0a010203, 53);
+
+/// The classes of frames of UDP between two ends and back, of TCP, of ICMP, of a fragment, between equal ends, and of class Other.
+fn classes_of_ends(rt: &impl Abort, alloc: Global) -> Result<Vec<Class>, Fail> {
+    let out = frame(17, NEAR, FAR);
+    let back = frame(17, FAR, NEAR);
+    let tcp = frame(6, NEAR, FAR);
+    let icmp = frame(1, NEAR, FAR);
     let mut fragment = out;
     fragment[20] = 0x20;
-    let alike = frame(17, near, near);
+    let alike = frame(17, NEAR, NEAR);
     let other = [0u8; 13];
     // The second record is cut in its capture.
     let frames: [&[u8]; 10] = [
@@ -108,7 +112,13 @@ fn keys_have_two_ends(rt: HostRuntime) -> Result<(), Fail> {
         &other,
         &[],
     ];
-    let classes = classes(&rt, rt.alloc(), None, &frames)?;
+    let classes = classes(rt, alloc, None, &frames)?;
+    Ok(classes)
+}
+
+#[test]
+fn keys_have_two_ends(rt: HostRuntime) -> Result<(), Fail> {
+    let classes = classes_of_ends(&rt, rt.alloc())?;
     let wanted = [
         (0, Dir::Forward, None),
         (0, Dir::Forward, None),
@@ -122,6 +132,12 @@ fn keys_have_two_ends(rt: HostRuntime) -> Result<(), Fail> {
         (5, Dir::Forward, None),
     ];
     assert_eq!(rt; told(rt.alloc(), &classes)?.as_slice(), wanted.as_slice());
+    Ok(())
+}
+
+#[test]
+fn a_flow_has_the_ends_of_its_first_record(rt: HostRuntime) -> Result<(), Fail> {
+    let classes = classes_of_ends(&rt, rt.alloc())?;
     let ends = |(src, sport): (u32, u16), (dst, dport): (u32, u16)| Ends {
         src,
         sport,
@@ -131,11 +147,11 @@ fn keys_have_two_ends(rt: HostRuntime) -> Result<(), Fail> {
     assert!(rt; classes.len() == 10);
     assert_eq!(rt;
         (classes[2].first, classes[2].hash),
-        (ends(near, far), 0x3a66306ebc5b73b7)
+        (ends(NEAR, FAR), 0x3a66306ebc5b73b7)
     );
     // without ports
-    assert_eq!(rt; classes[4].first, ends((near.0, 0), (far.0, 0)));
-    assert_eq!(rt; classes[5].first, ends((near.0, 0), (far.0, 0)));
+    assert_eq!(rt; classes[4].first, ends((NEAR.0, 0), (FAR.0, 0)));
+    assert_eq!(rt; classes[5].first, ends((NEAR.0, 0), (FAR.0, 0)));
     // class Other
     assert_eq!(rt; classes[9].first, ends((0, 0), (0, 0)));
     assert_eq!(rt;

@@ -71,6 +71,28 @@ fn edited(mut header: [u8; 24], at: usize, byte: u8) -> [u8; 24] {
     header
 }
 
+/// A file header, a record header, and how many records a capture of both has.
+type Row<'a> = (&'a [u8], &'a [u8], Result<u32, CaptureFault>);
+
+/// Each capture has so many records, or this fault.
+fn counts_are(rt: &impl Abort, alloc: Global, table: &[Row<'_>]) -> Result<(), Fail> {
+    for (header, head, want) in table {
+        let frame: &[u8] = if head.len() == 0 { &[] } else { &FRAME };
+        assert_eq!(rt; count(rt, alloc, header, head, frame), *want, "{header:?}");
+    }
+    Ok(())
+}
+
+#[test]
+fn good_headers(rt: HostRuntime) -> Result<(), Fail> {
+    let table: [Row<'_>; 3] = [
+        (&FILE_HEADER, &[], Ok(0)),
+        (&BIG_HEADER, &BIG_RECORD_HEAD, Ok(1)),
+        (&BIG_NANO_HEADER, &BIG_RECORD_HEAD, Ok(1)),
+    ];
+    counts_are(&rt, rt.alloc(), &table)
+}
+
 #[test]
 fn first_faults(rt: HostRuntime) -> Result<(), Fail> {
     let other_magic = edited(FILE_HEADER, 0, 0xd5);
@@ -78,57 +100,27 @@ fn first_faults(rt: HostRuntime) -> Result<(), Fail> {
     let other_version = edited(FILE_HEADER, 6, 3);
     let big_other_version = edited(BIG_HEADER, 4, 7);
     let both = edited(other_version, 20, 2);
-    let table: [(&[u8], &[u8], Result<u32, CaptureFault>); 10] = [
+    let magic = CaptureFault::Magic { word: 0xd5c3_b2a1 };
+    let version = CaptureFault::Version { major: 2, minor: 3 };
+    let big_version = CaptureFault::Version {
+        major: 1794,
+        minor: 4,
+    };
+    let link = CaptureFault::Link { word: 2 };
+    let long = CaptureFault::LongRecord {
+        number: 0,
+        len: 262_145,
+    };
+    let table: [Row<'_>; 7] = [
         (&[], &[], Err(CaptureFault::ShortHeader { len: 0 })),
-        (&FILE_HEADER, &[], Ok(0)),
-        (&BIG_HEADER, &BIG_RECORD_HEAD, Ok(1)),
-        (&BIG_NANO_HEADER, &BIG_RECORD_HEAD, Ok(1)),
-        (
-            &other_magic,
-            &RECORD_HEAD,
-            Err(CaptureFault::Magic { word: 0xd5c3_b2a1 }),
-        ),
-        (
-            &other_version,
-            &RECORD_HEAD,
-            Err(CaptureFault::Version { major: 2, minor: 3 }),
-        ),
-        (
-            &big_other_version,
-            &RECORD_HEAD,
-            Err(CaptureFault::Version {
-                major: 1794,
-                minor: 4,
-            }),
-        ),
-        (
-            &both,
-            &RECORD_HEAD,
-            Err(CaptureFault::Version { major: 2, minor: 3 }),
-        ),
-        (
-            &other_link,
-            &RECORD_HEAD,
-            Err(CaptureFault::Link { word: 2 }),
-        ),
-        (
-            &FILE_HEADER,
-            &LONG_RECORD_HEAD,
-            Err(CaptureFault::LongRecord {
-                number: 0,
-                len: 262_145,
-            }),
-        ),
+        (&other_magic, &RECORD_HEAD, Err(magic)),
+        (&other_version, &RECORD_HEAD, Err(version)),
+        (&big_other_version, &RECORD_HEAD, Err(big_version)),
+        (&both, &RECORD_HEAD, Err(version)),
+        (&other_link, &RECORD_HEAD, Err(link)),
+        (&FILE_HEADER, &LONG_RECORD_HEAD, Err(long)),
     ];
-    for (header, head, want) in table {
-        let frame: &[u8] = if head.len() == 0 { &[] } else { &FRAME };
-        assert_eq!(rt;
-            count(&rt, rt.alloc(), header, head, frame),
-            want,
-            "{header:?}"
-        );
-    }
-    Ok(())
+    counts_are(&rt, rt.alloc(), &table)
 }
 
 #[test]

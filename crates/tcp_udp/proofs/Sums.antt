@@ -6,7 +6,7 @@ use Rattle.brick_spec.specs.Header.{with_word}
 use Rattle.brick_spec.specs.Layer.{protocol_of}
 use Rattle.brick_spec.specs.Transport.{pseudo_header, segment_checksum}
 use Rattle.brick_spec.proofs.Words.{double, sum-word, sum-append, sum-without}
-use Rattle.brick_spec.proofs.Checksums.{folded-again}
+use Rattle.brick_spec.proofs.Checksums.{folded_again}
 
 pub double_is : (k : ℕ) → double k ≡ k + k
 double_is zero = refl
@@ -42,7 +42,7 @@ folded_both : (x y : ℕ) → folded (folded x + folded y) ≡ folded (x + y)
 folded_both x y =
     let turned : x + folded y ≡ folded y + x = omega arith in
     let back : y + x ≡ x + y = omega arith in
-    folded-again x (folded y) ∙ (ap folded turned ∙ (folded-again y x ∙ ap folded back))
+    folded_again x (folded y) ∙ (ap folded turned ∙ (folded_again y x ∙ ap folded back))
 
 -- the parts may be added up apart
 pub checksum-parts : (header segment : List ℕ) (at addresses rest front back add₁ add₂ add₃ : ℕ) → 20 ≤ length header → at % 2 ≡ 0 → at + 2 ≤ length segment → length segment < 2 ^ 16

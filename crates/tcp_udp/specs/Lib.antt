@@ -2,7 +2,6 @@ pub mod LayerLaws
 pub mod TransportLaws
 pub mod Datagrams
 pub mod View
-pub mod PrefixView
 pub mod MatchView
 pub mod PacketLayers
 pub mod PlacesIn

@@ -2,7 +2,7 @@
 use Rattle.std.specs.Prelude.{option_map}
 use Rattle.brick_spec.specs.Match as match
 use Rattle.tcp_udp.specs.declared.matching.Match.{Match}
-use Rattle.tcp_udp.specs.PrefixView.{prefix_view}
+use Rattle.brick_base.specs.PrefixView.{prefix_view}
 
 abbrev pub match_view : Match → match.Match
 match_view m = record {

@@ -3,7 +3,7 @@
 ghost use Rattle.std.specs.Prelude.{◌≡◌, ℕ, Option, Some, None, option_map, nat_eq};
 ghost use Rattle.brick_spec.specs.Match.{meets_number, meets_prefix, meets_port, is_source, is_destination, is_either, has_no_key, meets_tuple, meets};
 ghost use Rattle.tcp_udp.specs.View.{tuple_view};
-ghost use Rattle.tcp_udp.specs.PrefixView.{prefix_view};
+ghost use Rattle.brick_base.specs.PrefixView.{prefix_view};
 
 use crate::tuple::Tuple;
 use brick_base::Prefix;

@@ -212,6 +212,26 @@ const ANY: Match = Match {
     port: None,
 };
 
+/// A match with one of the ports.
+fn of_port(sport: Option<u16>, dport: Option<u16>, port: Option<u16>) -> Match {
+    Match {
+        sport,
+        dport,
+        port,
+        ..ANY
+    }
+}
+
+/// A match with a protocol or with prefixes.
+fn of_ends(proto: Option<u8>, src: Option<Prefix>, dst: Option<Prefix>) -> Match {
+    Match {
+        proto,
+        src,
+        dst,
+        ..ANY
+    }
+}
+
 #[test]
 fn matches(rt: HostRuntime) -> Result<(), Fail> {
     let ping = Tuple::read(&PING);
@@ -220,79 +240,29 @@ fn matches(rt: HostRuntime) -> Result<(), Fail> {
     let inside = Prefix::new(0x0a00_0000, 16).ok_or("a prefix")?;
     // 10.0.0.0/16 has the source and not the destination; port 53 is the destination's.
     let rows = [
-        (
-            Match {
-                proto: Some(17),
-                ..ANY
-            },
-            true,
-        ),
-        (
-            Match {
-                proto: Some(6),
-                ..ANY
-            },
-            false,
-        ),
-        (
-            Match {
-                src: Some(inside),
-                ..ANY
-            },
-            true,
-        ),
-        (
-            Match {
-                dst: Some(inside),
-                ..ANY
-            },
-            false,
-        ),
-        (
-            Match {
-                sport: Some(53),
-                ..ANY
-            },
-            false,
-        ),
-        (
-            Match {
-                dport: Some(53),
-                ..ANY
-            },
-            true,
-        ),
-        (
-            Match {
-                port: Some(53),
-                ..ANY
-            },
-            true,
-        ),
-        (
-            Match {
-                port: Some(54),
-                ..ANY
-            },
-            false,
-        ),
+        (of_ends(Some(17), None, None), true),
+        (of_ends(Some(6), None, None), false),
+        (of_ends(None, Some(inside), None), true),
+        (of_ends(None, None, Some(inside)), false),
+        (of_port(Some(53), None, None), false),
+        (of_port(None, Some(53), None), true),
+        (of_port(None, None, Some(53)), true),
+        (of_port(None, None, Some(54)), false),
     ];
     for (wanted, want) in rows {
         assert_eq!(rt; wanted.meets(&ping), want);
         assert!(rt; !wanted.meets(&None));
     }
+    Ok(())
+}
+
+#[test]
+fn a_tuple_without_ports_has_no_port_0(rt: HostRuntime) {
     let portless = Tuple {
         proto: 1,
         src: 0,
         dst: 0,
         ports: None,
     };
-    assert!(rt;
-        !Match {
-            port: Some(0),
-            ..ANY
-        }
-        .meets(&Some(portless))
-    );
-    Ok(())
+    assert!(rt; !of_port(None, None, Some(0)).meets(&Some(portless)));
 }

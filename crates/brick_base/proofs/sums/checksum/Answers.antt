@@ -1,6 +1,6 @@
 use Rattle.std.proofs.Common.{◌+◌, ap, ◌∙◌, arith, drop}
 use Rattle.brick_spec.specs.Checksum.{folded, sum_of_words}
-use Rattle.brick_base.proofs.Folding.{sum_of_words-drop, folded_with_word}
+use Rattle.brick_base.proofs.WordSums.{sum_of_words-drop, folded_with_word}
 use Rattle.brick_base.proofs.sums.checksum.Goals as goal
 
 pub words-preserved : goal.words-preserved
