@@ -6,7 +6,7 @@ use Rattle.std.proofs.lemmas.List.Sorted.{IsPermutation-sym, All-permutation, le
 use Rattle.std.proofs.lemmas.List.Elements.{All-from_recursion, recursion_from_All}
 use Rattle.brick_base.specs.declared.flow.Class.{Class}
 use Rattle.brick_spec.specs.Stage.{Reason, through}
-use Rattle.brick_spec.specs.Tenant.{is_at, counts_of, reason_place}
+use Rattle.chain_spec.specs.Tenant.{is_at, counts_of, reason_place}
 use Rattle.brick_base.specs.declared.drops.Reason.{Reason as Reason_in_code}
 use Rattle.brick_base.specs.Reason.{reason_view}
 use Rattle.bricks_main.specs.Progress.{one_more_at}

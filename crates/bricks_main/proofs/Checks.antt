@@ -1,77 +1,84 @@
 -- The promises of mode `check`, from what its parts did.
 use Rattle.std.proofs.Common.{◌≡◌, ◌≢◌, ◌⊎◌, inl, inr, ℕ, List, ◌++◌, refl, sym, ◌∙◌, ap, subst, arith}
 use Rattle.std.proofs.lemmas.List.{append-nil}
-use Rattle.brick_spec.specs.Chain.{Chain}
+use Rattle.chain_spec.specs.ChainFault.{ChainFault}
+use Rattle.chain_spec.specs.ChainSet.{Chain}
+use Rattle.chain_spec.specs.Report.{Outcome, Usage, ChainsRefused, StoreFault, NoMemory, Checked, Reported, ok_text, outcome_text, IsChecked}
 use Rattle.brick_spec.specs.Cause.{Rose}
 use Rattle.brick_spec.specs.Files.{AllStay}
-use Rattle.brick_spec.specs.Promise.{Held, Seen, CountRose, Says, IsRefused, NoneRose}
-use Rattle.bricks_main.specs.Check.{CheckOutcome, ChainsRefused, StoreFault, NoMemory, Checked, ok_text, check_text, IsChecked, CheckTold, CheckShown, IsTrueOfCheck, CheckPromises}
-use Rattle.bricks_main.proofs.Promises.{says_refused, same_chain}
+use Rattle.chain_spec.specs.Promise.{Held, Seen, CountRose, Says, Refuses, IsRefused, NoneRose, Told, Shown}
+use Rattle.chain_spec.specs.Check.{IsTrueOfCheck, CheckPromises}
+use Rattle.bricks_main.proofs.Promises.{StatusIs, status_is, says_refuses, says_refused, same_chain, refusal_shown}
 
 -- what the parts of a check did
-pub record HasChecked (tells shows : Type 0) (chains out : List ℕ) (before now : Seen) (outcome : CheckOutcome) (status : ℕ) : Type 0 where
+pub record HasChecked (tells shows : Type 0) (chains out : List ℕ) (before now : Seen) (outcome : Outcome) (status : ℕ) : Type 0 where
   pub is_true : IsTrueOfCheck tells chains out before.store now.store outcome
   pub files : tells → AllStay before.store.files now.store.files
   pub counts : (account : ℕ) (name : List ℕ) → account ≢ 0 → now.store.faults account name ≡ before.store.faults account name
-  pub told : CheckTold outcome status
+  pub told : Told outcome status
   pub sink : status ≡ 5 → Rose before.sink_faults now.sink_faults
-  pub shown : shows → CheckShown outcome before.written now.written before.sink_faults now.sink_faults status
+  pub shown : shows → Shown outcome before.written now.written before.sink_faults now.sink_faults status
 
 -- STATUSES
 
-abbrev StatusIs : CheckOutcome → ℕ → Type 0
-StatusIs ChainsRefused s = (s ≡ 3) ⊎ (s ≡ 6)
-StatusIs StoreFault s = (s ≡ 4) ⊎ (s ≡ 6)
-StatusIs NoMemory s = s ≡ 6
-StatusIs (Checked names) s = (s ≡ 0) ⊎ (s ≡ 5) ⊎ (s ≡ 6)
+-- no tenant was run, and the words were a line
+abbrev IsNoRun : Outcome → Type 0
+IsNoRun Usage = ⊥
+IsNoRun (ChainsRefused f) = Unit {0}
+IsNoRun StoreFault = Unit {0}
+IsNoRun NoMemory = Unit {0}
+IsNoRun (Checked names) = Unit {0}
+IsNoRun (Reported lines) = ⊥
 
-status_is : (o : CheckOutcome) (s : ℕ) → CheckTold o s → StatusIs o s
-status_is ChainsRefused s (inl e) = inl e
-status_is ChainsRefused s (inr (inl h)) = absurd h.1
-status_is ChainsRefused s (inr (inr e)) = inr e
-status_is StoreFault s (inl e) = inl e
-status_is StoreFault s (inr (inl h)) = absurd h.1
-status_is StoreFault s (inr (inr e)) = inr e
-status_is NoMemory s (inl e) = e
-status_is NoMemory s (inr (inl h)) = absurd h.1
-status_is NoMemory s (inr (inr e)) = e
-status_is (Checked names) s (inl e) = inl e
-status_is (Checked names) s (inr (inl h)) = inr (inl h.0)
-status_is (Checked names) s (inr (inr e)) = inr (inr e)
+is_no_run : (tells : Type 0) (chains out : List ℕ) (before now : Held) (o : Outcome) → IsTrueOfCheck tells chains out before now o → IsNoRun o
+is_no_run tells chains out before now Usage h = h
+is_no_run tells chains out before now (ChainsRefused f) h = tt
+is_no_run tells chains out before now StoreFault h = tt
+is_no_run tells chains out before now NoMemory h = tt
+is_no_run tells chains out before now (Checked names) h = tt
+is_no_run tells chains out before now (Reported lines) h = h
 
-not_one : (o : CheckOutcome) (s : ℕ) → StatusIs o s → s ≢ 1
-not_one ChainsRefused s (inl is) e = omega arith
-not_one ChainsRefused s (inr is) e = omega arith
-not_one StoreFault s (inl is) e = omega arith
-not_one StoreFault s (inr is) e = omega arith
-not_one NoMemory s is e = omega arith
-not_one (Checked names) s (inl is) e = omega arith
-not_one (Checked names) s (inr (inl is)) e = omega arith
-not_one (Checked names) s (inr (inr is)) e = omega arith
+not_one : (o : Outcome) (s : ℕ) → IsNoRun o → StatusIs o s → s ≢ 1
+not_one Usage s none_run is e = none_run
+not_one (ChainsRefused f) s none_run (inl is) e = omega arith
+not_one (ChainsRefused f) s none_run (inr is) e = omega arith
+not_one StoreFault s none_run (inl is) e = omega arith
+not_one StoreFault s none_run (inr is) e = omega arith
+not_one NoMemory s none_run is e = omega arith
+not_one (Reported lines) s none_run is e = none_run
+not_one (Checked names) s none_run (inl is) e = omega arith
+not_one (Checked names) s none_run (inr (inl is)) e = omega arith
+not_one (Checked names) s none_run (inr (inr is)) e = omega arith
 
-not_two : (o : CheckOutcome) (s : ℕ) → StatusIs o s → s ≢ 2
-not_two ChainsRefused s (inl is) e = omega arith
-not_two ChainsRefused s (inr is) e = omega arith
-not_two StoreFault s (inl is) e = omega arith
-not_two StoreFault s (inr is) e = omega arith
-not_two NoMemory s is e = omega arith
-not_two (Checked names) s (inl is) e = omega arith
-not_two (Checked names) s (inr (inl is)) e = omega arith
-not_two (Checked names) s (inr (inr is)) e = omega arith
+not_two : (o : Outcome) (s : ℕ) → IsNoRun o → StatusIs o s → s ≢ 2
+not_two Usage s none_run is e = none_run
+not_two (ChainsRefused f) s none_run (inl is) e = omega arith
+not_two (ChainsRefused f) s none_run (inr is) e = omega arith
+not_two StoreFault s none_run (inl is) e = omega arith
+not_two StoreFault s none_run (inr is) e = omega arith
+not_two NoMemory s none_run is e = omega arith
+not_two (Reported lines) s none_run is e = none_run
+not_two (Checked names) s none_run (inl is) e = omega arith
+not_two (Checked names) s none_run (inr (inl is)) e = omega arith
+not_two (Checked names) s none_run (inr (inr is)) e = omega arith
 
 -- under status 0 the chain file is accepted
-zero_is : (o : CheckOutcome) (s : ℕ) → StatusIs o s → s ≡ 0 → (names : List (List ℕ)) × (o ≡ Checked names)
-zero_is ChainsRefused s (inl is) e = absurd (omega arith)
-zero_is ChainsRefused s (inr is) e = absurd (omega arith)
-zero_is StoreFault s (inl is) e = absurd (omega arith)
-zero_is StoreFault s (inr is) e = absurd (omega arith)
-zero_is NoMemory s is e = absurd (omega arith)
-zero_is (Checked names) s is e = (names, refl)
+zero_is : (o : Outcome) (s : ℕ) → IsNoRun o → StatusIs o s → s ≡ 0 → (names : List (List ℕ)) × (o ≡ Checked names)
+zero_is Usage s none_run is e = absurd none_run
+zero_is (Reported lines) s none_run is e = absurd none_run
+zero_is (ChainsRefused f) s none_run (inl is) e = absurd (omega arith)
+zero_is (ChainsRefused f) s none_run (inr is) e = absurd (omega arith)
+zero_is StoreFault s none_run (inl is) e = absurd (omega arith)
+zero_is StoreFault s none_run (inr is) e = absurd (omega arith)
+zero_is NoMemory s none_run is e = absurd (omega arith)
+zero_is (Checked names) s none_run is e = (names, refl)
 
 -- CHAIN FILE
 
-refused_of : (tells : Type 0) (chains out : List ℕ) (before now : Held) (o : CheckOutcome) (s : ℕ) → tells → StatusIs o s → IsTrueOfCheck tells chains out before now o → s ≡ 3 → IsRefused chains out before.files
-refused_of tells chains out before now ChainsRefused s t is h e = h t
+refused_of : (tells : Type 0) (chains out : List ℕ) (before now : Held) (o : Outcome) (s : ℕ) → tells → StatusIs o s → IsTrueOfCheck tells chains out before now o → s ≡ 3 → IsRefused chains out before.files
+refused_of tells chains out before now Usage s t is h e = absurd h
+refused_of tells chains out before now (Reported lines) s t is h e = absurd h
+refused_of tells chains out before now (ChainsRefused f) s t is h e = (f, h t)
 refused_of tells chains out before now StoreFault s t (inl is) h e = absurd (omega arith)
 refused_of tells chains out before now StoreFault s t (inr is) h e = absurd (omega arith)
 refused_of tells chains out before now NoMemory s t is h e = absurd (omega arith)
@@ -79,10 +86,16 @@ refused_of tells chains out before now (Checked names) s t (inl is) h e = absurd
 refused_of tells chains out before now (Checked names) s t (inr (inl is)) h e = absurd (omega arith)
 refused_of tells chains out before now (Checked names) s t (inr (inr is)) h e = absurd (omega arith)
 
-refused_comes : (tells : Type 0) (chains out : List ℕ) (before now : Held) (o : CheckOutcome) (s : ℕ) → tells → StatusIs o s → IsTrueOfCheck tells chains out before now o → IsRefused chains out before.files
+-- the fault that is told is the first one
+refusal_is : (tells : Type 0) (chains out : List ℕ) (before now : Held) (o : Outcome) (f : ChainFault) → o ≡ ChainsRefused f → tells → IsTrueOfCheck tells chains out before now o → Refuses chains out before.files f
+refusal_is tells chains out before now o f e t h = let P : Outcome → Type 0 = IsTrueOfCheck tells chains out before now in subst P e h t
+
+refused_comes : (tells : Type 0) (chains out : List ℕ) (before now : Held) (o : Outcome) (s : ℕ) → tells → StatusIs o s → IsTrueOfCheck tells chains out before now o → IsRefused chains out before.files
     → (s ≡ 3) ⊎ ((s ≡ 4) × CountRose 0 chains before now) ⊎ (s ≡ 6)
-refused_comes tells chains out before now ChainsRefused s t (inl is) h refused = inl is
-refused_comes tells chains out before now ChainsRefused s t (inr is) h refused = inr (inr is)
+refused_comes tells chains out before now Usage s t is h refused = absurd h
+refused_comes tells chains out before now (Reported lines) s t is h refused = absurd h
+refused_comes tells chains out before now (ChainsRefused f) s t (inl is) h refused = inl is
+refused_comes tells chains out before now (ChainsRefused f) s t (inr is) h refused = inr (inr is)
 refused_comes tells chains out before now StoreFault s t (inl is) h refused = inr (inl (is, h))
 refused_comes tells chains out before now StoreFault s t (inr is) h refused = inr (inr is)
 refused_comes tells chains out before now NoMemory s t is h refused = inr (inr is)
@@ -90,9 +103,11 @@ refused_comes tells chains out before now (Checked names) s t is h refused = abs
 
 -- STORE FAULTS
 
-fault_of : (tells : Type 0) (chains out : List ℕ) (before now : Held) (o : CheckOutcome) (s : ℕ) → StatusIs o s → IsTrueOfCheck tells chains out before now o → s ≡ 4 → CountRose 0 chains before now
-fault_of tells chains out before now ChainsRefused s (inl is) h e = absurd (omega arith)
-fault_of tells chains out before now ChainsRefused s (inr is) h e = absurd (omega arith)
+fault_of : (tells : Type 0) (chains out : List ℕ) (before now : Held) (o : Outcome) (s : ℕ) → StatusIs o s → IsTrueOfCheck tells chains out before now o → s ≡ 4 → CountRose 0 chains before now
+fault_of tells chains out before now Usage s is h e = absurd h
+fault_of tells chains out before now (Reported lines) s is h e = absurd h
+fault_of tells chains out before now (ChainsRefused f) s (inl is) h e = absurd (omega arith)
+fault_of tells chains out before now (ChainsRefused f) s (inr is) h e = absurd (omega arith)
 fault_of tells chains out before now StoreFault s is h e = h
 fault_of tells chains out before now NoMemory s is h e = absurd (omega arith)
 fault_of tells chains out before now (Checked names) s (inl is) h e = absurd (omega arith)
@@ -101,19 +116,23 @@ fault_of tells chains out before now (Checked names) s (inr (inr is)) h e = absu
 
 -- ACCEPTED
 
-accepted_only : (tells : Type 0) (chains out : List ℕ) (before now : Held) (o : CheckOutcome) (s : ℕ) → tells → StatusIs o s → IsTrueOfCheck tells chains out before now o → s ≡ 0
+accepted_only : (tells : Type 0) (chains out : List ℕ) (before now : Held) (o : Outcome) (s : ℕ) → tells → StatusIs o s → IsTrueOfCheck tells chains out before now o → s ≡ 0
     → (chain : Chain) × Says chains out before.files chain
-accepted_only tells chains out before now ChainsRefused s t (inl is) h e = absurd (omega arith)
-accepted_only tells chains out before now ChainsRefused s t (inr is) h e = absurd (omega arith)
+accepted_only tells chains out before now Usage s t is h e = absurd h
+accepted_only tells chains out before now (Reported lines) s t is h e = absurd h
+accepted_only tells chains out before now (ChainsRefused f) s t (inl is) h e = absurd (omega arith)
+accepted_only tells chains out before now (ChainsRefused f) s t (inr is) h e = absurd (omega arith)
 accepted_only tells chains out before now StoreFault s t (inl is) h e = absurd (omega arith)
 accepted_only tells chains out before now StoreFault s t (inr is) h e = absurd (omega arith)
 accepted_only tells chains out before now NoMemory s t is h e = absurd (omega arith)
 accepted_only tells chains out before now (Checked names) s t is h e = (h.0, h.1 t)
 
-accepted_comes : (tells : Type 0) (chains out : List ℕ) (before now : Seen) (o : CheckOutcome) (s : ℕ) → tells → StatusIs o s → IsTrueOfCheck tells chains out before.store now.store o
+accepted_comes : (tells : Type 0) (chains out : List ℕ) (before now : Seen) (o : Outcome) (s : ℕ) → tells → StatusIs o s → IsTrueOfCheck tells chains out before.store now.store o
     → (s ≡ 5 → Rose before.sink_faults now.sink_faults) → (chain : Chain) → Says chains out before.store.files chain
     → (s ≡ 0) ⊎ ((s ≡ 5) × Rose before.sink_faults now.sink_faults) ⊎ ((s ≡ 4) × CountRose 0 chains before.store now.store) ⊎ (s ≡ 6)
-accepted_comes tells chains out before now ChainsRefused s t is h sink chain says = absurd (says_refused chains out before.store.files chain says (h t))
+accepted_comes tells chains out before now Usage s t is h sink chain says = absurd h
+accepted_comes tells chains out before now (Reported lines) s t is h sink chain says = absurd h
+accepted_comes tells chains out before now (ChainsRefused f) s t is h sink chain says = absurd (says_refuses chains out before.store.files chain f says (h t))
 accepted_comes tells chains out before now StoreFault s t (inl is) h sink chain says = inr (inr (inl (is, h)))
 accepted_comes tells chains out before now StoreFault s t (inr is) h sink chain says = inr (inr (inr is))
 accepted_comes tells chains out before now NoMemory s t is h sink chain says = inr (inr (inr is))
@@ -133,32 +152,36 @@ complete_of chains out before now s (inr (inr (inr is))) none = inr is
 
 -- REPORT
 
-checked_of : (o : CheckOutcome) (s : ℕ) → StatusIs o s → s ≡ 0 → IsChecked o
-checked_of o s is e = subst IsChecked (sym (zero_is o s is e).1) tt
+checked_of : (o : Outcome) (s : ℕ) → IsNoRun o → StatusIs o s → s ≡ 0 → IsChecked o
+checked_of o s none_run is e = subst IsChecked (sym (zero_is o s none_run is e).1) tt
 
 -- the report of an accepted chain file is the line of the chain that it says
-ok_of : (tells : Type 0) (chains out : List ℕ) (before now : Seen) (o : CheckOutcome) (s : ℕ) → tells → StatusIs o s → IsTrueOfCheck tells chains out before.store now.store o
-    → CheckShown o before.written now.written before.sink_faults now.sink_faults s → s ≡ 0 → (chain : Chain) → Says chains out before.store.files chain → now.written ≡ before.written ++ ok_text chain.name
-ok_of tells chains out before now ChainsRefused s t (inl is) h shown e chain says = absurd (omega arith)
-ok_of tells chains out before now ChainsRefused s t (inr is) h shown e chain says = absurd (omega arith)
+ok_of : (tells : Type 0) (chains out : List ℕ) (before now : Seen) (o : Outcome) (s : ℕ) → tells → StatusIs o s → IsTrueOfCheck tells chains out before.store now.store o
+    → Shown o before.written now.written before.sink_faults now.sink_faults s → s ≡ 0 → (chain : Chain) → Says chains out before.store.files chain → now.written ≡ before.written ++ ok_text chain.name
+ok_of tells chains out before now Usage s t is h shown e chain says = absurd h
+ok_of tells chains out before now (Reported lines) s t is h shown e chain says = absurd h
+ok_of tells chains out before now (ChainsRefused f) s t (inl is) h shown e chain says = absurd (omega arith)
+ok_of tells chains out before now (ChainsRefused f) s t (inr is) h shown e chain says = absurd (omega arith)
 ok_of tells chains out before now StoreFault s t (inl is) h shown e chain says = absurd (omega arith)
 ok_of tells chains out before now StoreFault s t (inr is) h shown e chain says = absurd (omega arith)
 ok_of tells chains out before now NoMemory s t is h shown e chain says = absurd (omega arith)
 ok_of tells chains out before now (Checked names) s t is h shown e chain says =
     let same = same_chain chains out before.store.files h.0 chain (h.1 t) says in
-    shown.report e ∙ ap (λ x. before.written ++ check_text (Checked x)) h.2 ∙ ap (λ x. before.written ++ x) (append-nil (ok_text h.0.name))
+    shown.report (omega arith) ∙ ap (λ x. before.written ++ outcome_text (Checked x)) h.2 ∙ ap (λ x. before.written ++ x) (append-nil (ok_text h.0.name))
     ∙ ap (λ (x : Chain). before.written ++ ok_text x.name) same
 
-pub check_kept : (tells shows : Type 0) (chains out : List ℕ) (before now : Seen) (o : CheckOutcome) (s : ℕ) → HasChecked tells shows chains out before now o s → CheckPromises tells shows chains out before now s
+pub check_kept : (tells shows : Type 0) (chains out : List ℕ) (before now : Seen) (o : Outcome) (s : ℕ) → HasChecked tells shows chains out before now o s → CheckPromises tells shows chains out before now s
 check_kept tells shows chains out before now o s r =
     let is = status_is o s r.told in
+    let none_run = is_no_run tells chains out before.store now.store o r.is_true in
     record {
-      tenant = not_one o s is;
-      line = not_two o s is;
+      tenant = not_one o s none_run is;
+      line = not_two o s none_run is;
       chain_file = λ t. record {
         refused = refused_of tells chains out before.store now.store o s t is r.is_true;
         comes = refused_comes tells chains out before.store now.store o s t is r.is_true;
         files = λ refused. r.files t;
+        shown = λ w e f refused. refusal_shown chains out before now o s is (λ g is_g. refusal_is tells chains out before.store now.store o g is_g t r.is_true) (r.shown w) e f refused;
       };
       accepted = λ t. record {
         only = accepted_only tells chains out before.store now.store o s t is r.is_true;
@@ -171,7 +194,7 @@ check_kept tells shows chains out before now o s r =
       report = record {
         outcome = o;
         told = r.told;
-        accepted = checked_of o s is;
+        accepted = checked_of o s none_run is;
         shown = r.shown;
         true_of = r.is_true;
         ok = λ t w e chain says. ok_of tells chains out before now o s t is r.is_true (r.shown w) e chain says;

@@ -9,8 +9,8 @@ use Rattle.std.proofs.lemmas.List.Sums.{sum_by-append, count_by-le-length}
 use Rattle.brick_spec.specs.Capture.{Entry, Contents}
 use Rattle.brick_spec.specs.Item.{Item, item_of, items_from}
 use Rattle.brick_spec.specs.Stage.{Reason, Big, Unparsed, Fire, NoRoute, Ttl, NatFull, Filter, NoGroup, Reach, ItemStage, kept, reason_in, applied, through}
-use Rattle.brick_spec.specs.Chain.{Chain}
-use Rattle.brick_spec.specs.Tenant.{items_of, reason_place, is_at, counts_of}
+use Rattle.chain_spec.specs.ChainSet.{Chain}
+use Rattle.chain_spec.specs.Tenant.{items_of, reason_place, is_at, counts_of}
 use Rattle.bricks_main.specs.Progress.{first, one_more_at}
 
 -- A ROW OF STAGES, ON ONE ITEM MORE

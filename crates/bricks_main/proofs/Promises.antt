@@ -1,20 +1,21 @@
 -- The promises of a run, from what its parts did.
 use Rattle.std.proofs.Common.{◌≡◌, ◌≢◌, ◌⊎◌, inl, inr, ℕ, ◌≤◌, Bool, true, false, cond, List, [], ◌∷◌, ◌++◌, refl, sym, ◌∙◌, ap, subst, arith}
-use Rattle.std.specs.Prelude.{Option, Some, None, IsSomeAnd, IsTrue}
+use Rattle.std.specs.Prelude.{Option, Some, None, Result, Ok, Err, IsSomeAnd, IsTrue}
 use Rattle.std.specs.List.{AllByRecursion, list_all}
 use Rattle.std.proofs.lemmas.Bool.{cases_eq}
 use Rattle.std.proofs.lemmas.List.{append-nil}
 use Rattle.brick_spec.specs.Capture.{Contents}
 use Rattle.brick_spec.specs.CaptureFault.{CaptureFault}
-use Rattle.brick_spec.specs.Chain.{Chain, file_names}
-use Rattle.brick_spec.specs.ChainFile.{IsChainFile, IsAccepted}
-use Rattle.brick_spec.specs.Tenant.{Tally, tally_of, texts_of}
-use Rattle.brick_spec.specs.Report.{TenantEnd, Done, TooLong, BadCapture, ReadFault, WriteFault, Line, line_text, Outcome, Usage, ChainsRefused, StoreFault, NoMemory, Reported, is_done, outcome_text, status_of, AllDone, IsAllDone, HasOther}
+use Rattle.chain_spec.specs.ChainFault.{ChainFault}
+use Rattle.chain_spec.specs.ChainSet.{Chain, file_names}
+use Rattle.chain_spec.specs.ChainWalk.{read_chains}
+use Rattle.chain_spec.specs.Tenant.{Tally, tally_of, texts_of}
+use Rattle.chain_spec.specs.Report.{TenantEnd, Done, TooLong, BadCapture, ReadFault, WriteFault, Line, line_text, Outcome, Usage, ChainsRefused, StoreFault, NoMemory, Checked, Reported, is_done, outcome_text, status_of, AllDone, IsAllDone, HasOther}
 use Rattle.brick_spec.specs.Cause.{Rose, reading_account, writing_account}
 use Rattle.brick_spec.specs.Files.{Files, FaultCounts, AllStay}
 use Rattle.brick_spec.specs.Texts.{OthersStayOf, SomeRose}
-use Rattle.brick_spec.specs.Promise.{Held, Seen, CountRose, Says, IsRefused, Captured, IsTooLong, IsBad, IsUnreadable, HasWritten, NoneTouched, MayHaveWritten, TenantPromises, tenant_line, IsReportOf, IsTrueOf, NoneRose, Told, Shown, ChainFilePromise, StoreFaultPromise, SinkFaultPromise, CapturePromise, PartialFilesPromise, UntouchedPromise, OutputPromise, ReportPromise, CompletenessPromise, InlinePromises}
-use Rattle.bricks_main.proofs.ChainFiles.{one_chain}
+use Rattle.chain_spec.specs.Promise.{Held, Seen, CountRose, Says, Refuses, IsRefused, Captured, IsTooLong, IsBad, IsUnreadable, HasWritten, NoneTouched, MayHaveWritten, TenantPromises, tenant_line, IsReportOf, IsTrueOf, NoneRose, Told, Shown, ChainFilePromise, StoreFaultPromise, SinkFaultPromise, CapturePromise, PartialFilesPromise, UntouchedPromise, OutputPromise, ReportPromise, CompletenessPromise, InlinePromises}
+use Rattle.bricks_main.proofs.OutputFiles.{text_names, text_others}
 use Rattle.bricks_main.proofs.Runs.{all_held_may, stops_may}
 use Rattle.bricks_main.proofs.Tenants.{some_both, captured_long, captured_bad, same_contents}
 
@@ -27,26 +28,30 @@ pub record Ran (tells shows : Type 0) (chains out : List ℕ) (before now : Seen
 
 -- STATUSES
 
-abbrev StatusIs : Outcome → ℕ → Type 0
+abbrev pub StatusIs : Outcome → ℕ → Type 0
 StatusIs Usage s = (s ≡ 2) ⊎ (s ≡ 6)
-StatusIs ChainsRefused s = (s ≡ 3) ⊎ (s ≡ 6)
+StatusIs (ChainsRefused f) s = (s ≡ 3) ⊎ (s ≡ 6)
 StatusIs StoreFault s = (s ≡ 4) ⊎ (s ≡ 6)
 StatusIs NoMemory s = s ≡ 6
+StatusIs (Checked names) s = (s ≡ 0) ⊎ (s ≡ 5) ⊎ (s ≡ 6)
 StatusIs (Reported lines) s = (s ≡ status_of (Reported lines)) ⊎ (s ≡ 5) ⊎ (s ≡ 6)
 
-status_is : (o : Outcome) (s : ℕ) → Told o s → StatusIs o s
+pub status_is : (o : Outcome) (s : ℕ) → Told o s → StatusIs o s
 status_is Usage s (inl e) = inl e
 status_is Usage s (inr (inl h)) = absurd h.1
 status_is Usage s (inr (inr e)) = inr e
-status_is ChainsRefused s (inl e) = inl e
-status_is ChainsRefused s (inr (inl h)) = absurd h.1
-status_is ChainsRefused s (inr (inr e)) = inr e
+status_is (ChainsRefused f) s (inl e) = inl e
+status_is (ChainsRefused f) s (inr (inl h)) = absurd h.1
+status_is (ChainsRefused f) s (inr (inr e)) = inr e
 status_is StoreFault s (inl e) = inl e
 status_is StoreFault s (inr (inl h)) = absurd h.1
 status_is StoreFault s (inr (inr e)) = inr e
 status_is NoMemory s (inl e) = e
 status_is NoMemory s (inr (inl h)) = absurd h.1
 status_is NoMemory s (inr (inr e)) = e
+status_is (Checked names) s (inl e) = inl e
+status_is (Checked names) s (inr (inl h)) = inr (inl h.0)
+status_is (Checked names) s (inr (inr e)) = inr (inr e)
 status_is (Reported lines) s (inl e) = inl e
 status_is (Reported lines) s (inr (inl h)) = inr (inl h.0)
 status_is (Reported lines) s (inr (inr e)) = inr (inr e)
@@ -58,29 +63,63 @@ report_status lines = by (list_all is_done lines)
     by true = omega arith
     by false = omega arith
 
+-- the tenants were to be run
+abbrev IsRun : Outcome → Type 0
+IsRun Usage = Unit {0}
+IsRun (ChainsRefused f) = Unit {0}
+IsRun StoreFault = Unit {0}
+IsRun NoMemory = Unit {0}
+IsRun (Checked names) = ⊥
+IsRun (Reported lines) = Unit {0}
+
+is_run : (tells : Type 0) (chains out : List ℕ) (before now : Held) (o : Outcome) → IsTrueOf tells chains out before now o → IsRun o
+is_run tells chains out before now Usage h = tt
+is_run tells chains out before now (ChainsRefused f) h = tt
+is_run tells chains out before now StoreFault h = tt
+is_run tells chains out before now NoMemory h = tt
+is_run tells chains out before now (Checked names) h = h
+is_run tells chains out before now (Reported lines) h = tt
+
 -- under status 0 or 1 the outcome is a report
-low_status : (o : Outcome) (s : ℕ) → StatusIs o s → s ≤ 1 → (lines : List Line) × (o ≡ Reported lines) × (s ≡ status_of (Reported lines))
-low_status Usage s (inl is) low = absurd (omega arith)
-low_status Usage s (inr is) low = absurd (omega arith)
-low_status ChainsRefused s (inl is) low = absurd (omega arith)
-low_status ChainsRefused s (inr is) low = absurd (omega arith)
-low_status StoreFault s (inl is) low = absurd (omega arith)
-low_status StoreFault s (inr is) low = absurd (omega arith)
-low_status NoMemory s is low = absurd (omega arith)
-low_status (Reported lines) s (inl is) low = (lines, refl, is)
-low_status (Reported lines) s (inr (inl is)) low = absurd (omega arith)
-low_status (Reported lines) s (inr (inr is)) low = absurd (omega arith)
+low_status : (o : Outcome) (s : ℕ) → IsRun o → StatusIs o s → s ≤ 1 → (lines : List Line) × (o ≡ Reported lines) × (s ≡ status_of (Reported lines))
+low_status Usage s run (inl is) low = absurd (omega arith)
+low_status Usage s run (inr is) low = absurd (omega arith)
+low_status (ChainsRefused f) s run (inl is) low = absurd (omega arith)
+low_status (ChainsRefused f) s run (inr is) low = absurd (omega arith)
+low_status StoreFault s run (inl is) low = absurd (omega arith)
+low_status StoreFault s run (inr is) low = absurd (omega arith)
+low_status NoMemory s run is low = absurd (omega arith)
+low_status (Checked names) s run is low = absurd run
+low_status (Reported lines) s run (inl is) low = (lines, refl, is)
+low_status (Reported lines) s run (inr (inl is)) low = absurd (omega arith)
+low_status (Reported lines) s run (inr (inr is)) low = absurd (omega arith)
 
 -- and under status 5
-five_status : (o : Outcome) (s : ℕ) → StatusIs o s → s ≡ 5 → (lines : List Line) × (o ≡ Reported lines)
-five_status Usage s (inl is) e = absurd (omega arith)
-five_status Usage s (inr is) e = absurd (omega arith)
-five_status ChainsRefused s (inl is) e = absurd (omega arith)
-five_status ChainsRefused s (inr is) e = absurd (omega arith)
-five_status StoreFault s (inl is) e = absurd (omega arith)
-five_status StoreFault s (inr is) e = absurd (omega arith)
-five_status NoMemory s is e = absurd (omega arith)
-five_status (Reported lines) s is e = (lines, refl)
+five_status : (o : Outcome) (s : ℕ) → IsRun o → StatusIs o s → s ≡ 5 → (lines : List Line) × (o ≡ Reported lines)
+five_status Usage s run (inl is) e = absurd (omega arith)
+five_status Usage s run (inr is) e = absurd (omega arith)
+five_status (ChainsRefused f) s run (inl is) e = absurd (omega arith)
+five_status (ChainsRefused f) s run (inr is) e = absurd (omega arith)
+five_status StoreFault s run (inl is) e = absurd (omega arith)
+five_status StoreFault s run (inr is) e = absurd (omega arith)
+five_status NoMemory s run is e = absurd (omega arith)
+five_status (Checked names) s run is e = absurd run
+five_status (Reported lines) s run is e = (lines, refl)
+
+-- under status 3 the chain file is refused
+three_status : (o : Outcome) (s : ℕ) → StatusIs o s → s ≡ 3 → (f : ChainFault) × (o ≡ ChainsRefused f)
+three_status Usage s (inl is) e = absurd (omega arith)
+three_status Usage s (inr is) e = absurd (omega arith)
+three_status (ChainsRefused f) s is e = (f, refl)
+three_status StoreFault s (inl is) e = absurd (omega arith)
+three_status StoreFault s (inr is) e = absurd (omega arith)
+three_status NoMemory s is e = absurd (omega arith)
+three_status (Checked names) s (inl is) e = absurd (omega arith)
+three_status (Checked names) s (inr (inl is)) e = absurd (omega arith)
+three_status (Checked names) s (inr (inr is)) e = absurd (omega arith)
+three_status (Reported lines) s (inl is) e = absurd (omega (arith, report_status lines, is, e))
+three_status (Reported lines) s (inr (inl is)) e = absurd (omega arith)
+three_status (Reported lines) s (inr (inr is)) e = absurd (omega arith)
 
 zero_done : (lines : List Line) → status_of (Reported lines) ≡ 0 → AllDone lines
 zero_done lines e = by (list_all is_done lines) e
@@ -109,16 +148,33 @@ line_status chain end known lines is same = ap (λ ls. status_of (Reported ls)) 
 
 -- WHAT CANNOT BOTH BE
 
+pub says_refuses : (chains out : List ℕ) (files : Files) (chain : Chain) (f : ChainFault) → Says chains out files chain → Refuses chains out files f → ⊥
+says_refuses chains out files chain f says refused =
+    some_both (files chains) (λ bytes. read_chains chains out bytes ≡ Ok (chain ∷ [])) (λ bytes. read_chains chains out bytes ≡ Err f) (λ bytes is none. clash (sym is ∙ none)) says refused
+  where
+    clash : ◌≡◌ {A = Result (List Chain) ChainFault} (Ok (chain ∷ [])) (Err f) → ⊥
+    clash e = cc
+
 pub says_refused : (chains out : List ℕ) (files : Files) (chain : Chain) → Says chains out files chain → IsRefused chains out files → ⊥
-says_refused chains out files chain says refused =
-    some_both (files chains) (λ bytes. IsChainFile chains out bytes chain) (λ bytes. ¬ (IsAccepted chains out bytes)) (λ bytes is none. none (chain, is)) says refused
+says_refused chains out files chain says refused = says_refuses chains out files chain refused.0 says refused.1
 
 pub same_chain : (chains out : List ℕ) (files : Files) (a b : Chain) → Says chains out files a → Says chains out files b → a ≡ b
 same_chain chains out files a b s t = some_says (files chains) s t
   where
-    some_says : (o : Option (List ℕ)) → IsSomeAnd o (λ bytes. IsChainFile chains out bytes a) → IsSomeAnd o (λ bytes. IsChainFile chains out bytes b) → a ≡ b
+    one : ◌≡◌ {A = Result (List Chain) ChainFault} (Ok (a ∷ [])) (Ok (b ∷ [])) → a ≡ b
+    one e = cc
+    some_says : (o : Option (List ℕ)) → IsSomeAnd o (λ bytes. read_chains chains out bytes ≡ Ok (a ∷ [])) → IsSomeAnd o (λ bytes. read_chains chains out bytes ≡ Ok (b ∷ [])) → a ≡ b
     some_says None h k = absurd h
-    some_says (Some bytes) h k = one_chain chains out bytes a b h k
+    some_says (Some bytes) h k = one (sym h ∙ k)
+
+pub same_refusal : (chains out : List ℕ) (files : Files) (f g : ChainFault) → Refuses chains out files f → Refuses chains out files g → f ≡ g
+same_refusal chains out files f g s t = some_refuses (files chains) s t
+  where
+    one : ◌≡◌ {A = Result (List Chain) ChainFault} (Err f) (Err g) → f ≡ g
+    one e = cc
+    some_refuses : (o : Option (List ℕ)) → IsSomeAnd o (λ bytes. read_chains chains out bytes ≡ Err f) → IsSomeAnd o (λ bytes. read_chains chains out bytes ≡ Err g) → f ≡ g
+    some_refuses None h k = absurd h
+    some_refuses (Some bytes) h k = one (sym h ∙ k)
 
 -- THE REPORT OF THE CHAIN THAT THE CHAIN FILE SAYS
 
@@ -212,17 +268,18 @@ may_end : (tells : Type 0) (chains out : List ℕ) (chain : Chain) (before now :
     → OthersStayOf (file_names out chain) before.files now.files → MayHaveWritten chains out before.files now.files
 may_end tells chains out chain before now (Done tally) t says p others =
     let m = (p.done t).means tally refl in
-    inr (chain, m.0, says, m.1, record { each = all_held_may before.files now.files (texts_of out chain m.0) m.3; others = others })
+    inr (chain, m.0, says, m.1, record { each = all_held_may before.files now.files (texts_of out chain m.0) m.3; others = text_others out chain m.0 before.files now.files others })
 may_end tells chains out chain before now WriteFault t says p others =
     let w = (p.write_fault).files t refl in
-    inr (chain, w.0, says, w.1, record { each = stops_may (λ text. CountRose (writing_account 0) text.name before now) before.files now.files (texts_of out chain w.0) w.2; others = others })
+    inr (chain, w.0, says, w.1, record { each = stops_may (λ text. CountRose (writing_account 0) text.name before now) before.files now.files (texts_of out chain w.0) w.2; others = text_others out chain w.0 before.files now.files others })
 may_end tells chains out chain before now TooLong t says p others = inl (all_stay out chain before.files now.files ((p.no_files t).too_long refl) others)
 may_end tells chains out chain before now (BadCapture f) t says p others = inl (all_stay out chain before.files now.files ((p.no_files t).bad_capture f refl) others)
 may_end tells chains out chain before now ReadFault t says p others = inl (all_stay out chain before.files now.files ((p.no_files t).read_fault refl) others)
 
 may_of : (tells : Type 0) (chains out : List ℕ) (before now : Held) (o : Outcome) → tells → IsTrueOf tells chains out before now o → MayHaveWritten chains out before.files now.files
 may_of tells chains out before now Usage t h = absurd h
-may_of tells chains out before now ChainsRefused t h = inl (h t).1
+may_of tells chains out before now (ChainsRefused f) t h = inl (h t).1
+may_of tells chains out before now (Checked names) t h = absurd h
 may_of tells chains out before now StoreFault t h = inl (h.1 t)
 may_of tells chains out before now NoMemory t h = h t
 may_of tells chains out before now (Reported lines) t h = may_end tells chains out h.chain before now h.end t (h.says t) h.tenant (h.others t)
@@ -233,7 +290,7 @@ partial_files_kept tells shows chains out before now o s r t = record { at_most 
 untouched_of : (chains out : List ℕ) (old new : Files) → MayHaveWritten chains out old new → (name : List ℕ)
     → ((chain : Chain) → Says chains out old chain → AllByRecursion (λ file. name ≢ file) (file_names out chain)) → new name ≡ old name
 untouched_of chains out old new (inl stay) name none = stay name
-untouched_of chains out old new (inr h) name none = h.4.others name (none h.0 h.2)
+untouched_of chains out old new (inr h) name none = h.4.others name (subst (λ (names : List (List ℕ)). AllByRecursion (λ file. name ≢ file) names) (sym (text_names out h.0 h.1)) (none h.0 h.2))
 
 pub untouched_kept : (tells shows : Type 0) (chains out : List ℕ) (before now : Seen) (o : Outcome) (s : ℕ) → Ran tells shows chains out before now o s → tells → UntouchedPromise chains out before now
 untouched_kept tells shows chains out before now o s r t = record { stay = untouched_of chains out before.store.files now.store.files (may_of tells chains out before.store now.store o t r.is_true) }
@@ -242,7 +299,8 @@ untouched_kept tells shows chains out before now o s r t = record { stay = untou
 
 chain_refused : (tells : Type 0) (chains out : List ℕ) (before now : Held) (o : Outcome) (s : ℕ) → tells → StatusIs o s → IsTrueOf tells chains out before now o → s ≡ 3 → IsRefused chains out before.files
 chain_refused tells chains out before now Usage s t is h e = absurd h
-chain_refused tells chains out before now ChainsRefused s t is h e = (h t).0
+chain_refused tells chains out before now (ChainsRefused f) s t is h e = (f, (h t).0)
+chain_refused tells chains out before now (Checked names) s t is h e = absurd h
 chain_refused tells chains out before now StoreFault s t (inl is) h e = absurd (omega arith)
 chain_refused tells chains out before now StoreFault s t (inr is) h e = absurd (omega arith)
 chain_refused tells chains out before now NoMemory s t is h e = absurd (omega arith)
@@ -253,8 +311,9 @@ chain_refused tells chains out before now (Reported lines) s t (inr (inr is)) h 
 chain_comes : (tells : Type 0) (chains out : List ℕ) (before now : Held) (o : Outcome) (s : ℕ) → tells → StatusIs o s → IsTrueOf tells chains out before now o → IsRefused chains out before.files
     → (s ≡ 3) ⊎ ((s ≡ 4) × CountRose 0 chains before now) ⊎ (s ≡ 6)
 chain_comes tells chains out before now Usage s t is h refused = absurd h
-chain_comes tells chains out before now ChainsRefused s t (inl is) h refused = inl is
-chain_comes tells chains out before now ChainsRefused s t (inr is) h refused = inr (inr is)
+chain_comes tells chains out before now (ChainsRefused f) s t (inl is) h refused = inl is
+chain_comes tells chains out before now (ChainsRefused f) s t (inr is) h refused = inr (inr is)
+chain_comes tells chains out before now (Checked names) s t is h refused = absurd h
 chain_comes tells chains out before now StoreFault s t (inl is) h refused = inr (inl (is, h.0))
 chain_comes tells chains out before now StoreFault s t (inr is) h refused = inr (inr is)
 chain_comes tells chains out before now NoMemory s t is h refused = inr (inr is)
@@ -264,13 +323,26 @@ may_refused : (chains out : List ℕ) (old new : Files) → IsRefused chains out
 may_refused chains out old new refused (inl stay) = stay
 may_refused chains out old new refused (inr h) = absurd (says_refused chains out old h.0 h.2 refused)
 
-pub chain_file_kept : (tells shows : Type 0) (chains out : List ℕ) (before now : Seen) (o : Outcome) (s : ℕ) → Ran tells shows chains out before now o s → tells → ChainFilePromise chains out before now s
+-- the fault that is told is the first one
+refusal_is : (tells : Type 0) (chains out : List ℕ) (before now : Held) (o : Outcome) (f : ChainFault) → o ≡ ChainsRefused f → tells → IsTrueOf tells chains out before now o → Refuses chains out before.files f
+refusal_is tells chains out before now o f e t h = let P : Outcome → Type 0 = IsTrueOf tells chains out before now in (subst P e h t).0
+
+pub refusal_shown : (chains out : List ℕ) (before now : Seen) (o : Outcome) (s : ℕ) → StatusIs o s → ((f : ChainFault) → o ≡ ChainsRefused f → Refuses chains out before.store.files f)
+    → Shown o before.written now.written before.sink_faults now.sink_faults s → s ≡ 3 → (f : ChainFault) → Refuses chains out before.store.files f
+    → Shown (ChainsRefused f) before.written now.written before.sink_faults now.sink_faults s
+refusal_shown chains out before now o s is told shown e f refused =
+    let three = three_status o s is e in
+    let same = same_refusal chains out before.store.files three.0 f (told three.0 three.1) refused in
+    subst (λ x. Shown x before.written now.written before.sink_faults now.sink_faults s) (three.1 ∙ ap ChainsRefused same) shown
+
+pub chain_file_kept : (tells shows : Type 0) (chains out : List ℕ) (before now : Seen) (o : Outcome) (s : ℕ) → Ran tells shows chains out before now o s → tells → ChainFilePromise shows chains out before now s
 chain_file_kept tells shows chains out before now o s r t =
     let is = status_is o s r.told in
     record {
       refused = chain_refused tells chains out before.store now.store o s t is r.is_true;
       comes = chain_comes tells chains out before.store now.store o s t is r.is_true;
       files = λ refused. may_refused chains out before.store.files now.store.files refused (may_of tells chains out before.store now.store o t r.is_true);
+      shown = λ w e f refused. refusal_shown chains out before now o s is (λ g is_g. refusal_is tells chains out before.store now.store o g is_g t r.is_true) (r.shown w) e f refused;
     }
 
 -- FAULTS
@@ -278,10 +350,11 @@ chain_file_kept tells shows chains out before now o s r t =
 store_fault_of : (tells : Type 0) (chains out : List ℕ) (before now : Held) (o : Outcome) (s : ℕ) → StatusIs o s → IsTrueOf tells chains out before now o → s ≡ 4
     → CountRose 0 chains before now × (tells → AllStay before.files now.files)
 store_fault_of tells chains out before now Usage s is h e = absurd h
-store_fault_of tells chains out before now ChainsRefused s (inl is) h e = absurd (omega arith)
-store_fault_of tells chains out before now ChainsRefused s (inr is) h e = absurd (omega arith)
+store_fault_of tells chains out before now (ChainsRefused f) s (inl is) h e = absurd (omega arith)
+store_fault_of tells chains out before now (ChainsRefused f) s (inr is) h e = absurd (omega arith)
 store_fault_of tells chains out before now StoreFault s is h e = h
 store_fault_of tells chains out before now NoMemory s is h e = absurd (omega arith)
+store_fault_of tells chains out before now (Checked names) s is h e = absurd h
 store_fault_of tells chains out before now (Reported lines) s (inl is) h e = absurd (omega (arith, report_status lines, is, e))
 store_fault_of tells chains out before now (Reported lines) s (inr (inl is)) h e = absurd (omega arith)
 store_fault_of tells chains out before now (Reported lines) s (inr (inr is)) h e = absurd (omega arith)
@@ -303,7 +376,8 @@ capture_comes : (tells : Type 0) (chains out : List ℕ) (before now : Seen) (o 
     → (s ≡ 5 → Rose before.sink_faults now.sink_faults) → (chain : Chain) → Says chains out before.store.files chain → IsUnreadable before.store.files chain
     → (s ≡ 1) ⊎ ((s ≡ 5) × Rose before.sink_faults now.sink_faults) ⊎ ((s ≡ 4) × CountRose 0 chains before.store now.store) ⊎ (s ≡ 6)
 capture_comes tells chains out before now Usage s t is h sink chain says bad = absurd h
-capture_comes tells chains out before now ChainsRefused s t is h sink chain says bad = absurd (says_refused chains out before.store.files chain says (h t).0)
+capture_comes tells chains out before now (ChainsRefused f) s t is h sink chain says bad = absurd (says_refuses chains out before.store.files chain f says (h t).0)
+capture_comes tells chains out before now (Checked names) s t is h sink chain says bad = absurd h
 capture_comes tells chains out before now StoreFault s t (inl is) h sink chain says bad = inr (inr (inl (is, h.0)))
 capture_comes tells chains out before now StoreFault s t (inr is) h sink chain says bad = inr (inr (inr is))
 capture_comes tells chains out before now NoMemory s t is h sink chain says bad = inr (inr (inr is))
@@ -336,7 +410,7 @@ capture_kept tells shows chains out before now o s r t = record {
 output_done : (tells : Type 0) (chains out : List ℕ) (before now : Held) (o : Outcome) (s : ℕ) → tells → StatusIs o s → IsTrueOf tells chains out before now o → s ≡ 0
     → (chain : Chain) × (c : Contents) × Says chains out before.files chain × Captured before.files chain c
 output_done tells chains out before now o s t is h e =
-    let low = low_status o s is (omega arith) in
+    let low = low_status o s (is_run tells chains out before now o h) is (omega arith) in
     let r = report_of tells chains out before now o low.0 low.1 h in
     let d = end_status r.chain r.end (sym (ap (λ ls. status_of (Reported ls)) r.is) ∙ sym low.2 ∙ e) in
     let m = ((r.tenant).done t).means d.0 d.1 in
@@ -345,7 +419,7 @@ output_done tells chains out before now o s t is h e =
 output_files : (tells : Type 0) (chains out : List ℕ) (before now : Held) (o : Outcome) (s : ℕ) → tells → StatusIs o s → IsTrueOf tells chains out before now o → s ≡ 0 → (chain : Chain) (c : Contents)
     → Says chains out before.files chain → Captured before.files chain c → HasWritten out chain c now.files
 output_files tells chains out before now o s t is h e chain c says captured =
-    let low = low_status o s is (omega arith) in
+    let low = low_status o s (is_run tells chains out before now o h) is (omega arith) in
     let r = reports tells chains out chain before now low.0 t says (report_of tells chains out before now o low.0 low.1 h) in
     written_of tells out chain c before now low.0 t captured r (read_done tells out chain c before now low.0 t captured (sym low.2 ∙ e) r)
 
@@ -353,7 +427,7 @@ output_unreported : (tells : Type 0) (chains out : List ℕ) (before now : Held)
     → Says chains out before.files chain → Captured before.files chain c → ¬ (CountRose (reading_account 0) chain.capture before now)
     → ¬ (SomeRose (writing_account 0) (file_names out chain) before.faults now.faults) → HasWritten out chain c now.files
 output_unreported tells chains out before now o s t is h e chain c says captured no_read no_write =
-    let five = five_status o s is e in
+    let five = five_status o s (is_run tells chains out before now o h) is e in
     let r = reports tells chains out chain before now five.0 t says (report_of tells chains out before now o five.0 five.1 h) in
     written_of tells out chain c before now five.0 t captured r (read tells out chain c before now five.0 t captured no_read no_write r)
 
@@ -368,11 +442,11 @@ output_kept tells shows chains out before now o s r t =
 
 -- REPORT
 
-all_done_of : (o : Outcome) (s : ℕ) → StatusIs o s → s ≡ 0 → IsAllDone o
-all_done_of o s is e = let low = low_status o s is (omega arith) in subst IsAllDone (sym low.1) (zero_done low.0 (sym low.2 ∙ e))
+all_done_of : (o : Outcome) (s : ℕ) → IsRun o → StatusIs o s → s ≡ 0 → IsAllDone o
+all_done_of o s run is e = let low = low_status o s run is (omega arith) in subst IsAllDone (sym low.1) (zero_done low.0 (sym low.2 ∙ e))
 
-some_other_of : (o : Outcome) (s : ℕ) → StatusIs o s → s ≡ 1 → HasOther o
-some_other_of o s is e = let low = low_status o s is (omega arith) in subst HasOther (sym low.1) (one_other low.0 (sym low.2 ∙ e))
+some_other_of : (o : Outcome) (s : ℕ) → IsRun o → StatusIs o s → s ≡ 1 → HasOther o
+some_other_of o s run is e = let low = low_status o s run is (omega arith) in subst HasOther (sym low.1) (one_other low.0 (sym low.2 ∙ e))
 
 -- the report of a line
 line_written : (o : Outcome) (s : ℕ) (before now : Seen) (lines : List Line) (chain : Chain) (end known : TenantEnd) → Shown o before.written now.written before.sink_faults now.sink_faults s → s ≤ 1
@@ -384,7 +458,7 @@ line_written o s before now lines chain end known shown low e is same =
 report_done : (tells shows : Type 0) (chains out : List ℕ) (before now : Seen) (o : Outcome) (s : ℕ) → Ran tells shows chains out before now o s → tells → shows → s ≡ 0 → (chain : Chain) (c : Contents)
     → Says chains out before.store.files chain → Captured before.store.files chain c → now.written ≡ before.written ++ line_text (tenant_line chain (Done (tally_of chain c)))
 report_done tells shows chains out before now o s r t w e chain c says captured =
-    let low = low_status o s (status_is o s r.told) (omega arith) in
+    let low = low_status o s (is_run tells chains out before.store now.store o r.is_true) (status_is o s r.told) (omega arith) in
     let p = reports tells chains out chain before.store now.store low.0 t says (report_of tells chains out before.store now.store o low.0 low.1 r.is_true) in
     line_written o s before now low.0 chain p.end (Done (tally_of chain c)) (r.shown w) (omega arith) low.1 p.is (read_done tells out chain c before.store now.store low.0 t captured (sym low.2 ∙ e) p)
 
@@ -392,7 +466,7 @@ report_too_long : (tells shows : Type 0) (chains out : List ℕ) (before now : S
     → Says chains out before.store.files chain → IsTooLong before.store.files chain → ¬ (CountRose (reading_account 0) chain.capture before.store now.store)
     → now.written ≡ before.written ++ line_text (tenant_line chain TooLong)
 report_too_long tells shows chains out before now o s r t w e chain says long no_read =
-    let low = low_status o s (status_is o s r.told) (omega arith) in
+    let low = low_status o s (is_run tells chains out before.store now.store o r.is_true) (status_is o s r.told) (omega arith) in
     let p = reports tells chains out chain before.store now.store low.0 t says (report_of tells chains out before.store now.store o low.0 low.1 r.is_true) in
     line_written o s before now low.0 chain p.end TooLong (r.shown w) (omega arith) low.1 p.is (by p (((p.tenant).too_long t).comes long))
   where
@@ -404,7 +478,7 @@ report_bad : (tells shows : Type 0) (chains out : List ℕ) (before now : Seen) 
     → Says chains out before.store.files chain → IsBad before.store.files chain f → ¬ (CountRose (reading_account 0) chain.capture before.store now.store)
     → now.written ≡ before.written ++ line_text (tenant_line chain (BadCapture f))
 report_bad tells shows chains out before now o s r t w e chain f says bad no_read =
-    let low = low_status o s (status_is o s r.told) (omega arith) in
+    let low = low_status o s (is_run tells chains out before.store now.store o r.is_true) (status_is o s r.told) (omega arith) in
     let p = reports tells chains out chain before.store now.store low.0 t says (report_of tells chains out before.store now.store o low.0 low.1 r.is_true) in
     line_written o s before now low.0 chain p.end (BadCapture f) (r.shown w) (omega arith) low.1 p.is (by p (((p.tenant).bad_capture t).comes f bad))
   where
@@ -418,8 +492,8 @@ report_kept tells shows chains out before now o s r =
     record {
       outcome = o;
       told = r.told;
-      all_done = all_done_of o s is;
-      some_other = some_other_of o s is;
+      all_done = all_done_of o s (is_run tells chains out before.store now.store o r.is_true) is;
+      some_other = some_other_of o s (is_run tells chains out before.store now.store o r.is_true) is;
       shown = r.shown;
       true_of = r.is_true;
       done = report_done tells shows chains out before now o s r;
@@ -437,7 +511,8 @@ none_of account (n ∷ ns) before now none (inr r) = none_of account ns before n
 complete_of : (tells : Type 0) (chains out : List ℕ) (before now : Seen) (o : Outcome) (s : ℕ) → tells → StatusIs o s → IsTrueOf tells chains out before.store now.store o
     → (s ≡ 5 → Rose before.sink_faults now.sink_faults) → (chain : Chain) (c : Contents) → Says chains out before.store.files chain → Captured before.store.files chain c → NoneRose before now → (s ≡ 0) ⊎ (s ≡ 6)
 complete_of tells chains out before now Usage s t is h sink chain c says captured none = absurd h
-complete_of tells chains out before now ChainsRefused s t is h sink chain c says captured none = absurd (says_refused chains out before.store.files chain says (h t).0)
+complete_of tells chains out before now (ChainsRefused f) s t is h sink chain c says captured none = absurd (says_refuses chains out before.store.files chain f says (h t).0)
+complete_of tells chains out before now (Checked names) s t is h sink chain c says captured none = absurd h
 complete_of tells chains out before now StoreFault s t is h sink chain c says captured none = absurd (none.store 0 chains h.0)
 complete_of tells chains out before now NoMemory s t is h sink chain c says captured none = inr is
 complete_of tells chains out before now (Reported lines) s t (inl is) h sink chain c says captured none =
@@ -453,11 +528,12 @@ completeness_kept tells shows chains out before now o s r t = record { succeeds 
 -- the words were a line
 known_status : (tells : Type 0) (chains out : List ℕ) (before now : Held) (o : Outcome) (s : ℕ) → StatusIs o s → IsTrueOf tells chains out before now o → s ≢ 2
 known_status tells chains out before now Usage s is h e = h
-known_status tells chains out before now ChainsRefused s (inl is) h e = omega arith
-known_status tells chains out before now ChainsRefused s (inr is) h e = omega arith
+known_status tells chains out before now (ChainsRefused f) s (inl is) h e = omega arith
+known_status tells chains out before now (ChainsRefused f) s (inr is) h e = omega arith
 known_status tells chains out before now StoreFault s (inl is) h e = omega arith
 known_status tells chains out before now StoreFault s (inr is) h e = omega arith
 known_status tells chains out before now NoMemory s is h e = omega arith
+known_status tells chains out before now (Checked names) s is h e = h
 known_status tells chains out before now (Reported lines) s (inl is) h e = omega (arith, report_status lines, is)
 known_status tells chains out before now (Reported lines) s (inr (inl is)) h e = omega arith
 known_status tells chains out before now (Reported lines) s (inr (inr is)) h e = omega arith

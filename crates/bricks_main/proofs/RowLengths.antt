@@ -1,10 +1,11 @@
 -- No stage changes the length of a frame.
 use Rattle.std.proofs.Common.{◌≡◌, ℕ, ◌+◌, ◌*◌, ◌-◌, ◌≤◌, slice_index, Bool, true, false, List, [], ◌∷◌, ◌++◌, length, map, take, drop, Option, Some, None, Result, Ok, Err, if◌then◌else◌, nat_le, refl, arith, length-append, length-drop, length-take-le}
+use Rattle.std.specs.Prelude.{is_none}
 use Rattle.brick_spec.specs.Edit.{ttl_of, protocol_of, with_header, with_ttl, with_tos}
 use Rattle.brick_spec.specs.Item.{Item}
 use Rattle.brick_spec.specs.Layer.{Layer, header_in, ip4_layer}
 use Rattle.brick_spec.specs.Match.{Match, meets_tuple}
-use Rattle.brick_spec.specs.Stage.{Reason, Filter, Ttl, kept, on_ip4, ttl_at, on_tuple, through, applied, with_item_header}
+use Rattle.brick_spec.specs.Stage.{Reason, Filter, Ttl, Unparsed, kept, on_ip4, ttl_at, on_tuple, through, applied, with_item_header}
 use Rattle.brick_spec.specs.Tuple.{Tuple, tuple_of}
 use Rattle.eth_ip.proofs.FrameLayers.{HasIp4Layer, ip4_layer_says}
 use Rattle.map_filter.proofs.Datagrams.{length-ip4_edited}
@@ -67,7 +68,12 @@ only_long m i (Some t) = by (meets_tuple m t)
     by true = refl
     by false = tt
 
+parsed_long : (i : Item) (b : Bool) → IsAsLong i (if b then Err Unparsed else Ok i)
+parsed_long i true = tt
+parsed_long i false = refl
+
 stage_long : (s : AnyStage) (i : Item) → IsAsLong i (made_by s i)
+stage_long (any.Parsed _) i = parsed_long i (is_none (ip4_layer i.frame))
 stage_long (any.Ttl s) i = ttl_long i (ip4_layer i.frame) refl
 stage_long (any.Tos s) i = tos_long s.value i (ip4_layer i.frame) refl
 stage_long (any.Only s) i = only_long (match_view s.wanted) i (tuple_of i.frame)

@@ -1,79 +1,25 @@
 -- What the parts of a run leave.
 use Rattle.std.proofs.Common.{◌≡◌, ◌≢◌, inl, inr, ℕ, ◌≤◌, ◌<◌, List, [], ◌∷◌, ◌++◌, length, refl, sym, ◌∙◌, ap, subst, arith, append_assoc, length-append, Option, Some, None, IsSomeAnd}
-use Rattle.std.specs.Prelude.{codes, IsTrue, nat_le, true}
+use Rattle.std.specs.Prelude.{Err}
 use Rattle.std.specs.List.{AllByRecursion}
 use Rattle.std.proofs.lemmas.List.{append-nil}
-use Rattle.std.proofs.lemmas.Bool.{and_parts}
-use Rattle.std.proofs.lemmas.Bool.Decides.{nat_tests}
 use Rattle.brick_spec.specs.Capture.{Contents}
-use Rattle.brick_spec.specs.Name.{is_name, is_path}
-use Rattle.brick_spec.specs.Stage.{Protocol, Icmp, Tcp, Udp, protocol_name}
-use Rattle.brick_spec.specs.Chain.{Chain, output_file, refused_file, file_names}
-use Rattle.brick_spec.specs.ChainFile.{chain_text, IsAccepted}
-use Rattle.brick_spec.specs.Tenant.{texts_of}
+use Rattle.chain_spec.specs.ChainFault.{TooLong}
+use Rattle.chain_spec.specs.ChainSet.{Chain, file_names}
+use Rattle.chain_spec.specs.ChainWalk.{read_chains}
+use Rattle.chain_spec.proofs.Walks.{long_is_refused}
+use Rattle.chain_spec.specs.Tenant.{texts_of}
 use Rattle.std.proofs.Math.Path.{fun_ext}
 use Rattle.brick_spec.specs.Files.{Files, FaultCounts, AllStay, IsPrefix}
-use Rattle.brick_spec.specs.Cause.{reading_account, writing_account}
-use Rattle.brick_spec.specs.Report.{TenantEnd, Done, TooLong, BadCapture, ReadFault, WriteFault, Outcome, Usage, ChainsRefused, StoreFault, NoMemory, Reported}
-use Rattle.brick_spec.specs.Promise.{Held, held, CountRose, Says, IsRefused, MayHaveWritten, IsTrueOf}
+use Rattle.brick_spec.specs.Cause.{Rose, reading_account, writing_account}
+use Rattle.chain_spec.specs.Report.{TenantEnd, Done, BadCapture, ReadFault, WriteFault, Outcome, Usage, ChainsRefused, StoreFault, NoMemory, Checked, Reported}
+use Rattle.chain_spec.specs.Report as report
+use Rattle.chain_spec.specs.Promise.{Held, held, CountRose, Says, Refuses, MayHaveWritten, IsTrueOf}
 use Rattle.brick_spec.specs.Texts.{Text, Holds, MayHold, Untouched, MayWrite, StopsWithin, WritesTexts, AreDistinct}
 use Rattle.bricks_main.specs.Run.{ChainMayWrite, TenantLeaves, TenantCause, ChainRan}
+use Rattle.bricks_main.proofs.OutputFiles.{text_others}
 use Rattle.bricks_main.proofs.Tenants.{reported}
 use Rattle.bricks_main.proofs.TextLists.{stops_for, some_then}
-
--- THE NAMES OF THE TWO FILES
-
-last_byte : List ℕ → ℕ
-last_byte [] = 0
-last_byte (x ∷ []) = x
-last_byte (x ∷ (y ∷ ys)) = last_byte (y ∷ ys)
-
-last-append : (xs : List ℕ) (y : ℕ) (ys : List ℕ) → last_byte (xs ++ y ∷ ys) ≡ last_byte (y ∷ ys)
-unfolding last_byte
-last-append [] y ys = refl
-last-append (x ∷ []) y ys = refl
-last-append (x ∷ (z ∷ xs)) y ys = last-append (z ∷ xs) y ys
-
-pub files_apart : (out name group : List ℕ) → output_file out name group ≢ refused_file out name
-unfolding last_byte
-files_apart out name group same =
-    let output : output_file out name group ≡ (out ++ (codes "/" ++ (name ++ (codes "." ++ group)))) ++ codes ".pcap" = simp append_assoc in
-    let refused : refused_file out name ≡ (out ++ (codes "/" ++ name)) ++ codes ".refused" = simp append_assoc in
-    let a = ap last_byte output ∙ last-append (out ++ (codes "/" ++ (name ++ (codes "." ++ group)))) 46 (codes "pcap") in
-    let b = ap last_byte refused ∙ last-append (out ++ (codes "/" ++ name)) 46 (codes "refused") in
-    let c : 112 ≡ 100 = sym a ∙ (ap last_byte same ∙ b) in
-    omega (arith, c)
-
--- A CHAIN FILE IS SHORT
-
-name_short : (text : List ℕ) → IsTrue (is_name text) → length text ≤ 32
-name_short text h = le _ _ (and_parts _ _ (and_parts _ _ h).1).0
-  where
-    le : (m n : ℕ) → nat_le m n ≡ true → m ≤ n
-    le m n e = grind (arith, nat_tests)
-
-path_short : (text : List ℕ) → IsTrue (is_path text) → length text ≤ 255
-path_short text h = le _ _ (and_parts _ _ (and_parts _ _ h).1).0
-  where
-    le : (m n : ℕ) → nat_le m n ≡ true → m ≤ n
-    le m n e = grind (arith, nat_tests)
-
-protocol_short : (p : Protocol) → length (protocol_name p) ≤ 4
-protocol_short Icmp = omega arith
-protocol_short Tcp = omega arith
-protocol_short Udp = omega arith
-
-length-chain_text : (n c : List ℕ) (p : Protocol) (g : List ℕ) → length n ≤ 32 → length c ≤ 255 → length g ≤ 32 → length (chain_text n c p g) ≤ 1048576
-unfolding chain_text
-length-chain_text n c p g a b d =
-    let e = protocol_short p in
-    simp length-append (omega arith)
-
-pub accepted_short : (chains out bytes : List ℕ) → IsAccepted chains out bytes → length bytes ≤ 1048576
-accepted_short chains out bytes (chain, (p, h)) =
-    let short = length-chain_text chain.name chain.capture p chain.group (name_short chain.name h.name) (path_short chain.capture h.capture) (name_short chain.group h.group) in
-    let is = ap length h.text in
-    omega arith
 
 -- FILES THAT WERE WRITTEN
 
@@ -103,8 +49,15 @@ pub writes_after : (done : Type 0) (why : Text → Type 0) (texts others : List 
 writes_after done why texts others old mid new stay same w =
     subst (λ (f : Files). WritesTexts done why others f new) (fun_ext stay) (subst (λ (ts : List Text). WritesTexts done why ts mid new) same w)
 
-pub distinct_texts : (out : List ℕ) (chain : Chain) (c : Contents) → AreDistinct (texts_of out chain c)
-distinct_texts out chain c = ((files_apart out chain.name chain.group, tt), (tt, tt))
+-- what the run of a tenant leaves is what it may have written
+pub leaves_may : (t : ℕ) (out : List ℕ) (chain : Chain) (before now : Held) (end : TenantEnd) → TenantLeaves t out chain before now end → ChainMayWrite out chain before.files now.files
+leaves_may t out chain before now (Done tally) (c, captured, is, written, others) =
+    inr (c, captured, record { each = all_held_may before.files now.files (texts_of out chain c) written; others = text_others out chain c before.files now.files others })
+leaves_may t out chain before now report.TooLong (long, stay) = inl stay
+leaves_may t out chain before now (BadCapture fault) (bad, stay) = inl stay
+leaves_may t out chain before now ReadFault stay = inl stay
+leaves_may t out chain before now WriteFault (c, captured, stopped, others) =
+    inr (c, captured, record { each = stops_may (λ text. CountRose (writing_account t) text.name before now) before.files now.files (texts_of out chain c) stopped; others = text_others out chain c before.files now.files others })
 
 -- WHAT THE STORE HELD
 
@@ -116,14 +69,14 @@ some_map None P Q f h = h
 some_map (Some x) P Q f h = f x h
 
 -- a file that is longer than a chain file is refused
-pub long_refused : (chains out : List ℕ) (files : Files) → IsSomeAnd (files chains) (λ content. 1048576 < length content) → IsRefused chains out files
-long_refused chains out files h =
-    some_map (files chains) (λ content. 1048576 < length content) (λ bytes. ¬ (IsAccepted chains out bytes)) (λ x long accepted. short_not_long x long (accepted_short chains out x accepted)) h
-  where
-    short_not_long : (x : List ℕ) → 1048576 < length x → length x ≤ 1048576 → ⊥
-    short_not_long x a b = omega arith
+pub long_refused : (chains out : List ℕ) (files : Files) → IsSomeAnd (files chains) (λ content. 1048576 < length content) → Refuses chains out files TooLong
+long_refused chains out files h = some_map (files chains) (λ content. 1048576 < length content) (λ bytes. read_chains chains out bytes ≡ Err TooLong) (long_is_refused chains out) h
 
 -- WHAT A RUN LEFT, AFTER A READ THAT LEFT ALL
+
+-- a count that rose later rose
+pub rose_later : (before mid now : ℕ) → before ≤ mid → Rose mid now → Rose before now
+rose_later before mid now later rose = omega arith
 
 -- no count falls
 abbrev pub Later : Held → Held → Type 0
@@ -132,7 +85,7 @@ Later before mid = (a : ℕ) (n : List ℕ) → before.faults a n ≤ mid.faults
 later_counts : (t : ℕ) (out : List ℕ) (chain : Chain) (files : Files) (before mid : FaultCounts) (now : Held) (end : TenantEnd) → ((a : ℕ) (n : List ℕ) → before a n ≤ mid a n)
     → TenantLeaves t out chain (held files mid) now end → TenantLeaves t out chain (held files before) now end
 later_counts t out chain files before mid now (Done tally) later h = h
-later_counts t out chain files before mid now TooLong later h = h
+later_counts t out chain files before mid now report.TooLong later h = h
 later_counts t out chain files before mid now (BadCapture fault) later h = h
 later_counts t out chain files before mid now ReadFault later h = h
 later_counts t out chain files before mid now WriteFault later (c, captured, stopped, others) = (
@@ -149,7 +102,7 @@ leaves_after t out chain before mid now end stay later h =
 
 cause_after : (t : ℕ) (out : List ℕ) (chain : Chain) (before mid now : Held) (end : TenantEnd) → Later before mid → TenantCause t out chain mid now end → TenantCause t out chain before now end
 cause_after t out chain before mid now (Done tally) later h = tt
-cause_after t out chain before mid now TooLong later h = tt
+cause_after t out chain before mid now report.TooLong later h = tt
 cause_after t out chain before mid now (BadCapture fault) later h = tt
 cause_after t out chain before mid now ReadFault later h = omega (arith, later (reading_account t) chain.capture)
 cause_after t out chain before mid now WriteFault later h = some_then (writing_account t) (file_names out chain) before.faults mid.faults now.faults later h
@@ -162,7 +115,8 @@ may_have chains out chain old new says (inr w) = inr (chain, w.0, says, w.1, w.2
 pub ran_after : (tells : Type 0) (chains out : List ℕ) (chain : Chain) (before mid now : Held) (o : Outcome) → (tells → AllStay before.files mid.files) → Later before mid
     → (tells → Says chains out before.files chain) → ChainRan tells out chain mid now o → IsTrueOf tells chains out before now o
 ran_after tells chains out chain before mid now Usage stay later says h = h
-ran_after tells chains out chain before mid now ChainsRefused stay later says h = absurd h
+ran_after tells chains out chain before mid now (ChainsRefused fault) stay later says h = absurd h
+ran_after tells chains out chain before mid now (Checked names) stay later says h = absurd h
 ran_after tells chains out chain before mid now StoreFault stay later says h = absurd h
 ran_after tells chains out chain before mid now NoMemory stay later says h =
     λ t. may_have chains out chain before.files now.files (says t) (subst (λ (f : Files). ChainMayWrite out chain f now.files) (fun_ext (stay t)) (h t))

@@ -6,8 +6,8 @@ use Rattle.brick_base.specs.declared.drops.Reason.{Reason}
 use Rattle.brick_base.specs.declared.drops.Reason.TheVariants as code
 use Rattle.brick_spec.specs.Capture.{Contents}
 use Rattle.brick_spec.specs.Stage.{Big}
-use Rattle.brick_spec.specs.Chain.{Chain}
-use Rattle.brick_spec.specs.Tenant.{accepted_items, big_items}
+use Rattle.chain_spec.specs.ChainSet.{Chain}
+use Rattle.chain_spec.specs.Tenant.{accepted_items, big_items}
 use Rattle.pcap_io.specs.View.{item_view}
 use Rattle.pcap_io.specs.declared.item.Item.{Item}
 use Rattle.bricks_main.specs.Plain.{IsItemOf}

@@ -3,16 +3,16 @@ use Rattle.std.proofs.Common.{◌≡◌, ℕ, ◌+◌, ◌≤◌, ◌<◌, ◌^�
 use Rattle.std.proofs.lemmas.List.{take_all, length-take-le, length-map, map-append}
 use Rattle.brick_spec.specs.Capture.{Entry, Contents}
 use Rattle.brick_spec.specs.Item.{Item, item_of, items_text}
-use Rattle.brick_spec.specs.Stage.{Reason, Big, ItemStage, stage_of, through}
-use Rattle.brick_spec.specs.Chain.{Chain}
-use Rattle.brick_spec.specs.Tenant.{items_of, accepted_items, big_items, counts_of, is_at}
+use Rattle.brick_spec.specs.Stage.{Reason, Big, ItemStage, through}
+use Rattle.chain_spec.specs.ChainSet.{Chain}
+use Rattle.chain_spec.specs.Tenant.{item_stages, items_of, accepted_items, big_items, counts_of, is_at}
 use Rattle.bricks_main.specs.Path.{MakesSame, TakesLeft}
 use Rattle.bricks_main.specs.PathView.{HasRoomFor}
 use Rattle.bricks_main.specs.Progress.{first, SoFar, so_far, one_more_at, Waits}
 use Rattle.bricks_main.proofs.MoreRecords.{kept_more, kept_same, fits, too_big, not_too_big, is_fit, is_too_big, is_no_fit, counts_more, counts_same, counts_at, count_by-append, through-append, through-count, through_all, passed_nothing, dropped_nothing, length_items, fits_or_big}
 
 abbrev stages : Chain → List ItemStage
-stages chain = map stage_of chain.stages
+stages chain = item_stages chain
 
 abbrev bigs : List Item → List Reason
 bigs items = map (λ (i : Item). Big) items

@@ -3,15 +3,16 @@ use Rattle.std.proofs.Common.{◌≡◌, ◌⊎◌, inl, inr, ℕ, ◌≤◌, �
 use Rattle.brick_spec.specs.Capture.{Contents, IsReadable}
 use Rattle.brick_spec.specs.CaptureFault.{CaptureFault, Stands}
 use Rattle.brick_spec.specs.Cause.{reading_account, writing_account}
-use Rattle.brick_spec.specs.Chain.{Chain, file_names}
+use Rattle.chain_spec.specs.ChainSet.{Chain, file_names}
 use Rattle.brick_spec.specs.Files.{Files, AllStay}
-use Rattle.brick_spec.specs.Report.{TenantEnd, Done, TooLong, BadCapture, ReadFault, WriteFault, Line}
-use Rattle.brick_spec.specs.Tenant.{Tally, tally_of}
+use Rattle.chain_spec.specs.Report.{TenantEnd, Done, TooLong, BadCapture, ReadFault, WriteFault, Line}
+use Rattle.chain_spec.specs.Tenant.{Tally, tally_of}
 use Rattle.brick_spec.specs.Texts.{OthersStayOf, SomeRose}
-use Rattle.brick_spec.specs.Promise.{Held, CountRose, Says, Captured, IsTooLong, IsBad, HasWritten, NoneTouched, HasStopped, TenantPromises, tenant_line, IsReportOf}
+use Rattle.chain_spec.specs.Promise.{Held, CountRose, Says, Captured, IsTooLong, IsBad, HasWritten, NoneTouched, HasStopped, TenantPromises, tenant_line, IsReportOf}
 use Rattle.pcap_io.proofs.Captures.{readable_unique}
 use Rattle.pcap_io.proofs.Faults.{whole_no_fault, one_fault}
 use Rattle.bricks_main.specs.Run.{TenantLeaves, TenantCause}
+use Rattle.bricks_main.proofs.OutputFiles.{all_none}
 
 -- WHAT A CAPTURE IS
 
@@ -125,9 +126,6 @@ write_files t out chain before now ReadFault h e = cc
 
 -- FILES
 
-all_none : (out : List ℕ) (chain : Chain) (old new : Files) → AllStay old new → NoneTouched out chain old new
-all_none out chain old new stay = (stay _, (stay _, tt))
-
 pub others_stay : (out : List ℕ) (chain : Chain) (t : ℕ) (before now : Held) (end : TenantEnd) → TenantLeaves t out chain before now end → OthersStayOf (file_names out chain) before.files now.files
 others_stay out chain t before now (Done mine) (c, captured, is, written, others) = others
 others_stay out chain t before now TooLong (long, stay) = λ name apart. stay name
@@ -136,21 +134,21 @@ others_stay out chain t before now ReadFault stay = λ name apart. stay name
 others_stay out chain t before now WriteFault (c, captured, stopped, others) = others
 
 long_none : (t : ℕ) (out : List ℕ) (chain : Chain) (before now : Held) (end : TenantEnd) → TenantLeaves t out chain before now end → end ≡ TooLong → NoneTouched out chain before.files now.files
-long_none t out chain before now TooLong (long, stay) e = all_none out chain before.files now.files stay
+long_none t out chain before now TooLong (long, stay) e = all_none (file_names out chain) before.files now.files stay
 long_none t out chain before now (Done mine) h e = cc
 long_none t out chain before now (BadCapture f) h e = cc
 long_none t out chain before now ReadFault h e = cc
 long_none t out chain before now WriteFault h e = cc
 
 bad_none : (t : ℕ) (out : List ℕ) (chain : Chain) (before now : Held) (end : TenantEnd) → TenantLeaves t out chain before now end → (f : CaptureFault) → end ≡ BadCapture f → NoneTouched out chain before.files now.files
-bad_none t out chain before now (BadCapture mine) (bad, stay) f e = all_none out chain before.files now.files stay
+bad_none t out chain before now (BadCapture mine) (bad, stay) f e = all_none (file_names out chain) before.files now.files stay
 bad_none t out chain before now (Done mine) h f e = cc
 bad_none t out chain before now TooLong h f e = cc
 bad_none t out chain before now ReadFault h f e = cc
 bad_none t out chain before now WriteFault h f e = cc
 
 read_none : (t : ℕ) (out : List ℕ) (chain : Chain) (before now : Held) (end : TenantEnd) → TenantLeaves t out chain before now end → end ≡ ReadFault → NoneTouched out chain before.files now.files
-read_none t out chain before now ReadFault stay e = all_none out chain before.files now.files stay
+read_none t out chain before now ReadFault stay e = all_none (file_names out chain) before.files now.files stay
 read_none t out chain before now (Done mine) h e = cc
 read_none t out chain before now TooLong h e = cc
 read_none t out chain before now (BadCapture f) h e = cc

@@ -1,5 +1,4 @@
 pub mod View
-pub mod ChainFile
 pub mod Path
 pub mod PathView
 pub mod Plain
@@ -9,6 +8,4 @@ pub mod InPlace
 pub mod Run
 pub mod WholeFiles
 pub mod Chains
-pub mod Check
-pub mod CheckView
 pub mod Lines

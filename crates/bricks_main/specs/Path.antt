@@ -6,7 +6,7 @@ use Rattle.brick_base.specs.declared.flow.Dir.TheVariants.{Forward}
 use Rattle.brick_spec.specs.FlowStage.{Drop}
 use Rattle.brick_spec.specs.Item.{Item, items_text}
 use Rattle.brick_spec.specs.Stage.{Reason, ItemStage, Left, through}
-use Rattle.brick_spec.specs.Tenant.{counts_of}
+use Rattle.chain_spec.specs.Tenant.{counts_of}
 use Rattle.packet_owner.specs.Buffer.{BufferModel}
 use Rattle.packet_owner.specs.Packet.{packet_item}
 use Rattle.batch_ops.specs.declared.batch.Work.{Work}

@@ -1,9 +1,9 @@
 -- What runs a batch.
 use Rattle.std.specs.Prelude.{◌≡◌, ℕ, ◌+◌, ◌<◌, ◌≤◌, ◌^◌, List, [], length, map}
 use Rattle.brick_spec.specs.Capture.{Contents}
-use Rattle.brick_spec.specs.Chain.{Chain}
+use Rattle.chain_spec.specs.ChainSet.{Chain}
 use Rattle.brick_spec.specs.Stage.{Reason, ItemStage, through}
-use Rattle.brick_spec.specs.Tenant.{counts_of}
+use Rattle.chain_spec.specs.Tenant.{counts_of}
 use Rattle.batch_ops.specs.Outlet.{IsEmptied}
 use Rattle.batch_ops.specs.Runs.{work_buffer}
 use Rattle.bricks_main.specs.Progress.{SoFar, Waits}

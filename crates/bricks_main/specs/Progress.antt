@@ -2,9 +2,9 @@
 use Rattle.std.specs.Prelude.{◌≡◌, ℕ, ◌+◌, Bool, List, [], ◌∷◌, ◌++◌, take, length, slice_index, slice_set, map}
 use Rattle.brick_spec.specs.Capture.{Contents}
 use Rattle.brick_spec.specs.Item.{Item, items_text}
-use Rattle.brick_spec.specs.Chain.{Chain}
-use Rattle.brick_spec.specs.Stage.{Big, stage_of, through}
-use Rattle.brick_spec.specs.Tenant.{accepted_items, big_items, made, reasons, counts_of, output_text}
+use Rattle.chain_spec.specs.ChainSet.{Chain}
+use Rattle.brick_spec.specs.Stage.{Big, through}
+use Rattle.chain_spec.specs.Tenant.{item_stages, accepted_items, big_items, made, reasons, counts_of, output_text}
 
 -- the first k records
 abbrev pub first : ℕ → Contents → Contents
@@ -35,7 +35,7 @@ pub record WritesItem (item : Item) (old new : SoFar) : Type 0 where
 pub record Waits (chain : Chain) (c : Contents) (made : SoFar) (waiting : List Item) : Type 0 where
   pub done : List Item
   pub split : accepted_items chain c ≡ done ++ waiting
-  pub text : made.text ≡ items_text c.nano (through (map stage_of chain.stages) done).passed
+  pub text : made.text ≡ items_text c.nano (through (item_stages chain) done).passed
   pub accepted : made.accepted ≡ length (accepted_items chain c)
-  pub drops : made.drops ≡ counts_of (map (λ i. Big) (big_items chain c) ++ (through (map stage_of chain.stages) done).dropped)
-  pub passed : made.passed ≡ length (through (map stage_of chain.stages) done).passed
+  pub drops : made.drops ≡ counts_of (map (λ i. Big) (big_items chain c) ++ (through (item_stages chain) done).dropped)
+  pub passed : made.passed ≡ length (through (item_stages chain) done).passed

@@ -1,25 +1,25 @@
 -- What the parts of a run leave, and why they failed.
-use Rattle.std.specs.Prelude.{◌≡◌, ◌⊎◌, ℕ, List, [], ◌∷◌, Result, Ok, Err}
+use Rattle.std.specs.Prelude.{◌≡◌, ◌⊎◌, ℕ, List, [], ◌∷◌, ◌++◌, map, Result, Ok, Err}
 use Rattle.brick_base.specs.declared.memory.NoMemory.{NoMemory}
 use Rattle.brick_spec.specs.Capture.{Contents}
 use Rattle.brick_spec.specs.Cause.{reading_account, writing_account}
-use Rattle.brick_spec.specs.Chain.{Chain, output_name, refused_name, file_names}
-use Rattle.brick_spec.specs.Tenant as spec
-use Rattle.brick_spec.specs.Report as report
+use Rattle.chain_spec.specs.ChainSet.{Chain, file_names}
+use Rattle.chain_spec.specs.Tenant as spec
+use Rattle.chain_spec.specs.Report as report
 use Rattle.brick_spec.specs.Files.{Files, AllStay}
 use Rattle.brick_spec.specs.Texts.{Text, OthersStayOf, MayWrite, SomeRose}
-use Rattle.brick_spec.specs.Promise.{Held, CountRose, Captured, IsTooLong, IsBad, HasWritten, HasStopped, tenant_line}
+use Rattle.chain_spec.specs.Promise.{Held, CountRose, Captured, IsTooLong, IsBad, HasWritten, HasStopped, tenant_line}
 use Rattle.bricks_main.specs.Progress.{SoFar}
 use Rattle.bricks_main.specs.View.{end_view}
 use Rattle.bricks_main.specs.declared.report.TenantEnd.{TenantEnd}
 
--- what is counted, with one output of this name
-abbrev pub made_tally : List ℕ → SoFar → spec.Tally
-made_tally group p = record { accepted = p.accepted; refused = 0; drops = p.drops; outputs = (record { name = group; items = p.passed }) ∷ [] }
+-- what is counted, with outputs of these names
+abbrev pub made_tally : List (List ℕ) → SoFar → spec.Tally
+made_tally names p = record { accepted = p.accepted; refused = 0; drops = p.drops; outputs = map (spec.output_with p.passed) names }
 
--- the files of the run, where this is the text of the output
+-- the files of the run, where this is the text of the outputs
 abbrev pub written_texts : List ℕ → Chain → List ℕ → List Text
-written_texts out chain output = (record { name = output_name out chain; bytes = output }) ∷ (record { name = refused_name out chain; bytes = [] }) ∷ []
+written_texts out chain output = map (spec.output_with_text out chain output) chain.outputs ++ spec.refused_text out chain ∷ []
 
 -- nothing is touched; or the capture is read, and each file is untouched or holds a prefix of its text
 abbrev pub ChainMayWrite : List ℕ → Chain → Files → Files → Type 0
@@ -55,8 +55,9 @@ one_line chain end = report.Reported (tenant_line chain end ∷ [])
 -- what the run of a chain did, by its outcome
 abbrev pub ChainRan : Type 0 → List ℕ → Chain → Held → Held → report.Outcome → Type 0
 ChainRan tells out chain before now report.Usage = ⊥
-ChainRan tells out chain before now report.ChainsRefused = ⊥
+ChainRan tells out chain before now (report.ChainsRefused fault) = ⊥
 ChainRan tells out chain before now report.StoreFault = ⊥
 ChainRan tells out chain before now report.NoMemory = tells → ChainMayWrite out chain before.files now.files
+ChainRan tells out chain before now (report.Checked names) = ⊥
 ChainRan tells out chain before now (report.Reported lines) = (end : report.TenantEnd) × (lines ≡ tenant_line chain end ∷ [])
     × (tells → TenantLeaves 0 out chain before now end) × TenantCause 0 out chain before now end

@@ -21,4 +21,4 @@ read_fault io.Failed = Failed
 read_fault io.NoMemory = NoMemory
 
 abbrev pub text_view : Text → spec.Text
-text_view t = record { name = string_bytes t.name; bytes = t.bytes.items }
+text_view t = record { name = string_bytes t.name; bytes = t.bytes.now }

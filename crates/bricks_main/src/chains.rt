@@ -1,13 +1,11 @@
 //! The chain file of a store.
-ghost use Rattle.std.specs.Prelude.{IsTrue, IsErrOf};
+ghost use Rattle.std.specs.Prelude.{◌≡◌, ◌∷◌, ◌≤◌, [], IsTrue, IsErrOf, length};
 ghost use Rattle.brick_spec.specs.Files.{AllStay};
 ghost use Rattle.bricks_main.specs.Chains.{ReadsChains};
 ghost use Rattle.bricks_main.specs.WholeFiles.{Causes};
 
-use crate::chain::Chain;
-use crate::chain_file::read_chain_file;
 use crate::whole_files::{ReadFault, read_whole};
-use brick_base::NoMemory;
+use chain_file::{Chain, ChainFault, ChainSet};
 use std::alloc::Global;
 use store_io::Store;
 
@@ -18,14 +16,23 @@ const CHAINS_ACCOUNT: u32 = 0;
 const LONGEST_CHAIN_FILE: usize = 1048576;
 
 /// Why a chain file gives no chain.
-#[derive(Clone, Copy, Debug, PartialEq, Eq)]
+#[derive(Debug, Drop)]
 pub enum ChainsFault {
-    /// It was read and is not accepted.
-    Refused,
+    /// It was read and is not accepted. This is its first fault, or memory ran out before it was found.
+    Refused(ChainFault),
     /// Reading it failed.
     Failed,
     /// Memory ran out.
     NoMemory,
+}
+
+/// The chain of the one tenant.
+fn only_chain(set: ChainSet) -> Chain
+    requires { length set ≤ 1 }
+    ensures { set ≡ result ∷ [] }
+{
+    let mut chains = set.into_chains();
+    chains.swap_remove(0)
 }
 
 /// Reads the chain file `chains`. The run that it is for writes to the folder `out`.
@@ -41,13 +48,12 @@ pub fn read_chains<S: Store>(
 {
     let bytes = match read_whole(alloc, store, CHAINS_ACCOUNT, chains, LONGEST_CHAIN_FILE) {
         Ok(bytes) => bytes,
-        Err(ReadFault::TooLong) => return Err(ChainsFault::Refused),
+        Err(ReadFault::TooLong) => return Err(ChainsFault::Refused(ChainFault::TooLong)),
         Err(ReadFault::Failed) => return Err(ChainsFault::Failed),
         Err(ReadFault::NoMemory) => return Err(ChainsFault::NoMemory),
     };
-    match read_chain_file(alloc, &bytes, chains, out) {
-        Ok(Some(chain)) => Ok(chain),
-        Ok(None) => Err(ChainsFault::Refused),
-        Err(NoMemory) => Err(ChainsFault::NoMemory),
+    match ChainSet::read(alloc, &bytes, chains, out) {
+        Ok(set) => Ok(only_chain(set)),
+        Err(fault) => Err(ChainsFault::Refused(fault)),
     }
 }

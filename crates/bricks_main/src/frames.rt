@@ -2,13 +2,15 @@
 ghost use Rattle.std.specs.Prelude.{◌≡◌, ℕ, ◌+◌, ◌-◌, ◌≤◌, ◌<◌, List, length, Option, Some, None, MatchOption, is_none};
 ghost use Rattle.brick_spec.specs.Item.{Item};
 ghost use Rattle.brick_spec.specs.Layer.{Layer, ip4_layer};
-ghost use Rattle.brick_spec.specs.Stage.{stage_of, ttl_stage, only_stage};
-ghost use Rattle.bricks_main.specs.View.{protocol_view, stage_view};
+ghost use Rattle.brick_spec.specs.Stage.{parsed_stage, ttl_stage, tos_stage, match_stage};
+ghost use Rattle.tcp_udp.specs.MatchView.{match_view};
+ghost use Rattle.map_filter.specs.Row.{made_by};
 ghost use Rattle.bricks_main.specs.InPlace.{with_frame};
 
-use crate::chain::{Protocol, Stage};
 use brick_base::{Proto, Reason};
-use eth_ip::{Eth, Ip4, header_protocol, header_ttl, set_header_ttl};
+use eth_ip::{Eth, Ip4, header_ttl, set_header_tos, set_header_ttl};
+use map_filter::AnyStage;
+use tcp_udp::{Match, Tuple};
 
 /// Where the IPv4 header of a frame stands.
 #[derive(Clone, Copy)]
@@ -46,25 +48,50 @@ fn lower_ttl(frame: &mut [u8]) -> Option<Reason>
     None
 }
 
-/// Drops what is of another protocol.
-fn keep_only(protocol: Protocol, frame: &[u8]) -> Option<Reason>
-    ensures { (i : Item) → i.frame ≡ frame.now → only_stage (protocol_view protocol) i ≡ with_frame i frame.now result }
+/// Sets the type of service.
+fn set_tos(value: u8, frame: &mut [u8])
+    ensures { (i : Item) → i.frame ≡ frame.old → tos_stage value i ≡ with_frame i frame.new None }
 {
-    let header = ip4_header(frame)?;
-    if header_protocol(&frame[header.start..header.end]) == protocol.number() {
+    if let Some(header) = ip4_header(frame) {
+        set_header_tos(&mut frame[header.start..header.end], value);
+    }
+}
+
+/// Drops what does not meet the match.
+fn keep_wanted(wanted: &Match, frame: &[u8]) -> Option<Reason>
+    ensures { (i : Item) → i.frame ≡ frame.now → match_stage (match_view wanted.now) i ≡ with_frame i frame.now result }
+{
+    let tuple = Tuple::read(frame);
+    if tuple.is_none() || wanted.meets(&tuple) {
         None
     } else {
         Some(Reason::Filter)
     }
 }
 
+/// Drops what has no IPv4 layer.
+fn keep_parsed(frame: &[u8]) -> Option<Reason>
+    ensures { (i : Item) → i.frame ≡ frame.now → parsed_stage i ≡ with_frame i frame.now result }
+{
+    if is_other(frame) {
+        Some(Reason::Unparsed)
+    } else {
+        None
+    }
+}
+
 /// Applies a stage to a frame in place. A frame that is dropped is not used again.
-pub fn apply_stage(stage: Stage, frame: &mut [u8]) -> Option<Reason>
-    ensures { (i : Item) → i.frame ≡ frame.old → stage_of (stage_view stage) i ≡ with_frame i frame.new result }
+pub fn apply_stage(stage: &AnyStage, frame: &mut [u8]) -> Option<Reason>
+    ensures { (i : Item) → i.frame ≡ frame.old → made_by stage.now i ≡ with_frame i frame.new result }
 {
     match stage {
-        Stage::Ttl => lower_ttl(frame),
-        Stage::Only(protocol) => keep_only(protocol, frame),
+        AnyStage::Parsed(_) => keep_parsed(frame),
+        AnyStage::Ttl(_) => lower_ttl(frame),
+        AnyStage::Tos(stage) => {
+            set_tos(stage.value, frame);
+            None
+        }
+        AnyStage::Only(stage) => keep_wanted(&stage.wanted, frame),
     }
 }
 

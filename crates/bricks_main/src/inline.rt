@@ -1,22 +1,23 @@
 //! A run without lanes: the chain file's tenant, from the files of a store to its files.
 ghost use Rattle.std.specs.Prelude.{◌≡◌, ◌≢◌, ◌+◌, ◌<◌, ℕ, IfOk, IsTrue, map, string_bytes};
 ghost use Rattle.brick_spec.specs.Cause as cause;
-ghost use Rattle.brick_spec.specs.Tenant.{texts_of, tally_of};
-ghost use Rattle.brick_spec.specs.Report.{Usage};
-ghost use Rattle.brick_spec.specs.Promise.{held, IsTrueOf};
-ghost use Rattle.bricks_main.specs.View.{chain_view, tally_view, end_view, outcome_view};
+ghost use Rattle.chain_spec.specs.Tenant.{output_with, output_with_text, output_text, tally_of};
+ghost use Rattle.chain_spec.specs.Report.{Usage};
+ghost use Rattle.chain_spec.specs.Promise.{held, IsTrueOf};
+ghost use Rattle.chain_file.specs.View.{chain_view};
+ghost use Rattle.bricks_main.specs.View.{output_view, tally_view, end_view, outcome_view};
 ghost use Rattle.bricks_main.specs.WholeFiles.{text_view};
 ghost use Rattle.bricks_main.specs.Run.{made_tally, written_texts, one_line, TenantRan, ChainRan};
 ghost use Rattle.bricks_main.specs.ProgressView.{progress_view};
 
-use crate::chain::{Chain, output_file, refused_file};
 use crate::chains::{ChainsFault, read_chains};
 use crate::progress::Progress;
 use crate::refusal::refusal_of;
 use crate::report::{Line, Outcome, Output, Tally, TenantEnd};
 use crate::tenant::take_records;
 use crate::whole_files::{ReadFault, Text, read_whole, write_texts};
-use brick_base::NoMemory;
+use brick_base::{Name, NoMemory};
+use chain_file::{Chain, output_file, refused_file};
 use pcap_io::Capture;
 use std::alloc::Global;
 use store_io::{IoFault, Store};
@@ -40,54 +41,80 @@ fn writing_account(tenant: u32) -> u32
     2 + 2 * tenant
 }
 
+/// The outputs, each with how many items it has.
+fn outputs_with(alloc: Global, names: &[Name], items: u32) -> Result<Vec<Output>, NoMemory>
+    ensures { IfOk result (λ outputs. map output_view outputs.items ≡ map (output_with items) names.now) }
+{
+    let mut outputs = Vec::with_capacity(alloc, names.len())?;
+    for name in names {
+        outputs.push(Output {
+            name: Name::new(alloc, name.as_str())?,
+            items,
+        })?;
+    }
+    Ok(outputs)
+}
+
 /// What is counted of the tenant.
 fn tally_in(alloc: Global, chain: &Chain, progress: &Progress) -> Result<Tally, NoMemory>
-    ensures { IfOk result (λ t. tally_view t ≡ made_tally (string_bytes chain.now.group) (progress_view progress.now)) }
+    ensures { IfOk result (λ t. tally_view t ≡ made_tally chain.now.outputs.items (progress_view progress.now)) }
 {
-    let mut outputs = Vec::with_capacity(alloc, 1)?;
-    outputs.push(Output {
-        name: chain.group.clone()?,
-        items: progress.passed,
-    })?;
     Ok(Tally {
         accepted: progress.accepted,
         refused: 0,
         drops: progress.drops,
-        outputs,
+        outputs: outputs_with(alloc, &chain.outputs, progress.passed)?,
     })
 }
 
-/// The files of the run with their texts, in the order in which they are written.
-fn texts_in(alloc: Global, chain: &Chain, out: &str, output: Vec<u8>) -> Result<Vec<Text>, NoMemory>
-    ensures { IfOk result (λ texts. map text_view texts.items ≡ written_texts out.now (chain_view chain.now) output.items) }
+/// The files of the outputs, each with this text.
+fn output_texts<'a>(
+    alloc: Global,
+    chain: &Chain,
+    out: &str,
+    output: &'a [u8],
+) -> Result<Vec<Text<'a>>, NoMemory>
+    ensures { IfOk result (λ texts. map text_view texts.items ≡ map (output_with_text out.now (chain_view chain.now) output.now) chain.now.outputs.items) }
 {
-    let name = chain.name.as_str();
-    let mut texts = Vec::with_capacity(alloc, 2)?;
+    let mut texts = Vec::with_capacity(alloc, chain.outputs.len())?;
+    for name in &chain.outputs {
+        texts.push(Text {
+            name: output_file(alloc, out, chain.name.as_str(), name.as_str())?,
+            bytes: output,
+        })?;
+    }
+    Ok(texts)
+}
+
+/// The files of the run with their texts, in the order in which they are written.
+fn texts_in<'a>(
+    alloc: Global,
+    chain: &Chain,
+    out: &str,
+    output: &'a [u8],
+) -> Result<Vec<Text<'a>>, NoMemory>
+    ensures { IfOk result (λ texts. map text_view texts.items ≡ written_texts out.now (chain_view chain.now) output.now) }
+{
+    let mut texts = output_texts(alloc, chain, out, output)?;
     texts.push(Text {
-        name: output_file(alloc, out, name, chain.group.as_str())?,
-        bytes: output,
-    })?;
-    texts.push(Text {
-        name: refused_file(alloc, out, name)?,
-        bytes: Vec::new(alloc),
+        name: refused_file(alloc, out, chain.name.as_str())?,
+        bytes: &[],
     })?;
     Ok(texts)
 }
 
-/// What a run makes of a capture: the texts of its files, and what is counted.
-fn make_texts(
+/// What a run makes of a capture: the text of the outputs, and what is counted.
+fn make_output(
     alloc: Global,
     chain: &Chain,
-    out: &str,
     capture: &Capture,
-) -> Result<(Vec<Text>, Tally), NoMemory>
-    ensures { IfOk result (λ made. (map text_view made.0.items ≡ texts_of out.now (chain_view chain.now) capture.now) × (tally_view made.1 ≡ tally_of (chain_view chain.now) capture.now)) }
+) -> Result<(Vec<u8>, Tally), NoMemory>
+    ensures { IfOk result (λ made. (made.0.items ≡ output_text (chain_view chain.now) capture.now) × (tally_view made.1 ≡ tally_of (chain_view chain.now) capture.now)) }
 {
     let progress = take_records(alloc, chain, capture)?;
     let tally = tally_in(alloc, chain, &progress)?;
     let Progress { writer, .. } = progress;
-    let texts = texts_in(alloc, chain, out, writer.into_bytes())?;
-    Ok((texts, tally))
+    Ok((writer.into_bytes(), tally))
 }
 
 /// Reads the capture of a tenant, and writes its files. After a fault of writing the rest of its files are not touched.
@@ -118,7 +145,8 @@ fn run_tenant<S: Store>(
         Ok(capture) => capture,
         Err(fault) => return Ok(TenantEnd::BadCapture(refusal_of(fault)?)),
     };
-    let (texts, tally) = make_texts(alloc, chain, out, &capture)?;
+    let (output, tally) = make_output(alloc, chain, &capture)?;
+    let texts = texts_in(alloc, chain, out, &output)?;
     match write_texts(store, writing_account(tenant), &texts) {
         Ok(()) => Ok(TenantEnd::Done(tally)),
         Err(IoFault::Failed) => Ok(TenantEnd::WriteFault),
@@ -132,7 +160,7 @@ fn report_one(alloc: Global, chain: &Chain, end: TenantEnd) -> Result<Outcome, N
 {
     let mut lines = Vec::with_capacity(alloc, 1)?;
     lines.push(Line {
-        name: chain.name.clone()?,
+        name: Name::new(alloc, chain.name.as_str())?,
         end,
     })?;
     Ok(Outcome::Reported(lines))
@@ -159,7 +187,7 @@ pub fn run_files<S: Store>(alloc: Global, store: &mut S, chains: &str, out: &str
 {
     match read_chains(alloc, store, chains, out) {
         Ok(chain) => run_chain(alloc, store, &chain, out),
-        Err(ChainsFault::Refused) => Outcome::ChainsRefused,
+        Err(ChainsFault::Refused(fault)) => Outcome::ChainsRefused(fault),
         Err(ChainsFault::Failed) => Outcome::StoreFault,
         Err(ChainsFault::NoMemory) => Outcome::NoMemory,
     }

@@ -2,11 +2,9 @@
 //!
 //! `bricks [--workers N] inline CHAINS OUT` runs the tenant of the chain file CHAINS and writes its files into the folder OUT, and
 //! `bricks [--workers N] check CHAINS OUT` reads the chain file alone. What both promise is the contract of `run::run_words`, in the
-//! words of the crate `brick_spec` and of the module `Check` beside it.
+//! words of the crates `brick_spec` and `chain_spec`.
 #![tactic(auto)]
 
-pub mod chain;
-pub mod chain_file;
 pub mod chains;
 pub mod check;
 pub mod frames;
@@ -17,6 +15,7 @@ pub mod progress;
 pub mod refusal;
 pub mod report;
 pub mod run;
+pub mod stages;
 pub mod tenant;
 #[cfg(test)]
 mod tests;

@@ -1,30 +1,29 @@
 //! The path of a tenant's packets: batches of them through a row of operators.
 ghost use Rattle.std.specs.Prelude.{◌≡◌, ◌+◌, ◌<◌, ◌≤◌, ◌^◌, ◌++◌, [], List, ℕ, length, map, ◌∷◌, IfOk, OnOk};
 ghost use Rattle.brick_spec.specs.Capture.{Contents};
-ghost use Rattle.brick_spec.specs.Chain.{Chain};
+ghost use Rattle.chain_spec.specs.ChainSet.{Chain};
 ghost use Rattle.brick_spec.specs.Item.{item_of};
-ghost use Rattle.brick_spec.specs.Stage.{Reason as ReasonMeaning, ItemStage, stage_of};
-ghost use Rattle.brick_spec.specs.Tenant.{reason_place, counts_of};
+ghost use Rattle.brick_spec.specs.Stage.{Reason as ReasonMeaning, ItemStage};
+ghost use Rattle.chain_spec.specs.Tenant.{reason_place, counts_of, item_stages};
 ghost use Rattle.brick_base.specs.Reason.{reason_view};
 ghost use Rattle.packet_owner.specs.Packet.{packet_item};
 ghost use Rattle.pcap_io.specs.View.{entry_view};
 ghost use Rattle.batch_ops.specs.Outlet.{IsEmptied, buffer_of, passed_buffer};
-ghost use Rattle.map_filter.specs.Row.{made_by};
-ghost use Rattle.bricks_main.specs.View.{stage_view};
+ghost use Rattle.chain_file.specs.View.{chain_view};
 ghost use Rattle.bricks_main.specs.Progress.{one_more_at, WritesItem};
 ghost use Rattle.bricks_main.specs.ProgressView.{progress_view};
 ghost use Rattle.bricks_main.specs.Path.{row_stages, fixed_class, HaveRoom, items_in, item_in_passed, reasons_in, AreShort, WritesItems, CountsDrops};
 ghost use Rattle.bricks_main.specs.PathView.{IsReady, HasRoomFor, RanPath, Carries, WaitsIn};
 
-use crate::chain::Stage;
 use crate::progress::{Progress, count_drop, write_item};
+use crate::stages::stages_of;
 use batch_ops::{Batch, Dropped, Outlet, Passed, Results, Work, run};
 use brick_base::{Class, Dir, Ends, NoMemory, Raw};
-use map_filter::{AnyStage, OnlyStage, StageRow, TtlStage};
+use chain_file::Chain as ChainInFile;
+use map_filter::StageRow;
 use packet_owner::{Buffer, Packet, Spare};
 use pcap_io::Entry;
 use std::alloc::Global;
-use tcp_udp::Match;
 
 /// The most packets of a batch.
 const MOST: usize = 32;
@@ -40,36 +39,6 @@ pub struct Path {
     pub batch: Batch,
     /// Whether the packets that wait have no IPv4 layer.
     pub other: bool,
-}
-
-/// The operator of a stage.
-fn operator_of(stage: Stage) -> AnyStage
-    ensures { made_by result ≡ stage_of (stage_view stage) }
-{
-    match stage {
-        Stage::Ttl => AnyStage::Ttl(TtlStage),
-        Stage::Only(protocol) => AnyStage::Only(OnlyStage {
-            wanted: Match {
-                proto: Some(protocol.number()),
-                src: None,
-                dst: None,
-                sport: None,
-                dport: None,
-                port: None,
-            },
-        }),
-    }
-}
-
-/// The operators of a chain's stages, in a row.
-fn row_of(alloc: Global, stages: &[Stage]) -> Result<StageRow, NoMemory>
-    ensures { IfOk result (λ r. row_stages r ≡ map stage_of (map stage_view stages.now)) }
-{
-    let mut row = Vec::with_capacity(alloc, stages.len())?;
-    for stage in stages {
-        row.push(operator_of(*stage))?;
-    }
-    Ok(StageRow { stages: row })
 }
 
 /// The class of every record: one flow, whose records go forward.
@@ -167,14 +136,16 @@ pub fn run_batch(alloc: Global, path: &mut Path, progress: &mut Progress) -> Res
     Ok(())
 }
 
-/// A path for the stages, on which nothing waits.
-pub fn start_path(alloc: Global, stages: &[Stage]) -> Result<Path, NoMemory>
-    ensures carries { IfOk result (λ p. (room : ℕ) → Carries (map stage_of (map stage_view stages.now)) room p) }
+/// A path for the stages of a chain, on which nothing waits.
+pub fn start_path(alloc: Global, chain: &ChainInFile) -> Result<Path, NoMemory>
+    ensures carries { IfOk result (λ p. (room : ℕ) → Carries (item_stages (chain_view chain.now)) room p) }
     ensures empty { IfOk result (λ p. p.batch ≡ []) }
 {
     let spare = Spare::new(alloc, 0, 0)?;
     Ok(Path {
-        row: row_of(alloc, stages)?,
+        row: StageRow {
+            stages: stages_of(alloc, chain)?,
+        },
         out: Outlet::new(alloc, spare)?,
         ready: Vec::with_capacity(alloc, MOST)?,
         batch: Batch::new(),
@@ -192,7 +163,7 @@ pub fn make_way(
     requires ready { IsReady path.old }
     requires room { HasRoomFor (length path.old.batch) (progress_view progress.old) }
     ensures carries { OnOk result ((ss : List ItemStage) (room : ℕ) → Carries ss room path.old → Carries ss room path.new) }
-    ensures waits { OnOk result ((chain : Chain) (c : Contents) (room : ℕ) → Carries (map stage_of chain.stages) room path.old
+    ensures waits { OnOk result ((chain : Chain) (c : Contents) (room : ℕ) → Carries (item_stages chain) room path.old
         → WaitsIn chain c (progress_view progress.old) path.old → WaitsIn chain c (progress_view progress.new) path.new) }
     ensures place { OnOk result ((length path.new.batch < 32) × (path.new.other ≡ other)) }
 {

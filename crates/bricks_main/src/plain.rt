@@ -3,14 +3,17 @@
 ghost use Rattle.std.specs.Prelude.{◌≡◌, ◌++◌, ◌≤◌, ◌<◌, ◌^◌, [], ◌∷◌, length, map, IfOk, OnOk};
 ghost use Rattle.pcap_io.specs.View.{item_view};
 ghost use Rattle.brick_base.specs.Reason.{reason_view};
-ghost use Rattle.brick_spec.specs.Stage.{Big, stage_of, applied, through};
-ghost use Rattle.brick_spec.specs.Tenant.{accepted_items, big_items, made, reasons};
-ghost use Rattle.bricks_main.specs.View.{chain_view, stage_view};
+ghost use Rattle.brick_spec.specs.Stage.{Big, applied, through};
+ghost use Rattle.chain_spec.specs.Tenant.{accepted_items, big_items, made, reasons};
+ghost use Rattle.map_filter.specs.Row.{made_by};
+ghost use Rattle.chain_file.specs.View.{chain_view};
 ghost use Rattle.bricks_main.specs.Plain.{IsItemOf, result_view};
 
-use crate::chain::{Chain, Stage};
 use crate::frames::apply_stage;
+use crate::stages::stages_of;
 use brick_base::{NoMemory, Reason};
+use chain_file::Chain;
+use map_filter::AnyStage;
 use pcap_io::{Capture, Frame, Item};
 use std::alloc::Global;
 
@@ -56,8 +59,8 @@ fn split_records(alloc: Global, chain: &Chain, capture: &Capture) -> Result<Made
 }
 
 /// What a stage makes of an item.
-fn apply_to_item(stage: Stage, item: Item) -> Result<Item, Reason>
-    ensures { result_view result ≡ stage_of (stage_view stage) (item_view item) }
+fn apply_to_item(stage: &AnyStage, item: Item) -> Result<Item, Reason>
+    ensures { result_view result ≡ made_by stage.now (item_view item) }
 {
     let Item {
         a,
@@ -84,12 +87,12 @@ fn apply_to_item(stage: Stage, item: Item) -> Result<Item, Reason>
 /// What a stage makes of a list of items.
 fn apply_to_list(
     alloc: Global,
-    stage: Stage,
+    stage: &AnyStage,
     items: Vec<Item>,
     dropped: &mut Vec<Reason>,
 ) -> Result<Vec<Item>, NoMemory>
-    ensures passed { IfOk result (λ v. map item_view v.items ≡ (applied (stage_of (stage_view stage)) (map item_view items.items)).passed) }
-    ensures dropped { OnOk result (map reason_view dropped.new.items ≡ map reason_view dropped.old.items ++ (applied (stage_of (stage_view stage)) (map item_view items.items)).dropped) }
+    ensures passed { IfOk result (λ v. map item_view v.items ≡ (applied (made_by stage.now) (map item_view items.items)).passed) }
+    ensures dropped { OnOk result (map reason_view dropped.new.items ≡ map reason_view dropped.old.items ++ (applied (made_by stage.now) (map item_view items.items)).dropped) }
 {
     let mut passed = Vec::new(alloc);
     for item in items {
@@ -110,8 +113,9 @@ pub fn plain_made(alloc: Global, chain: &Chain, capture: &Capture) -> Result<Mad
         mut items,
         mut dropped,
     } = split_records(alloc, chain, capture)?;
-    for stage in &chain.stages {
-        items = apply_to_list(alloc, *stage, items, &mut dropped)?;
+    let stages = stages_of(alloc, chain)?;
+    for stage in &stages {
+        items = apply_to_list(alloc, stage, items, &mut dropped)?;
     }
     Ok(Made { items, dropped })
 }

@@ -1,6 +1,6 @@
 //! What was made of the records so far.
 ghost use Rattle.std.specs.Prelude.{◌≡◌, ◌+◌, ◌≤◌, ◌<◌, ◌^◌, length, OnOk, slice_index};
-ghost use Rattle.brick_spec.specs.Tenant.{reason_place};
+ghost use Rattle.chain_spec.specs.Tenant.{reason_place};
 ghost use Rattle.brick_base.specs.Reason.{reason_view};
 ghost use Rattle.packet_owner.specs.Packet.{packet_item};
 ghost use Rattle.bricks_main.specs.Progress.{one_more_at, WritesItem};

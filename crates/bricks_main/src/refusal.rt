@@ -1,7 +1,7 @@
 //! Why a capture is refused, as it is told.
 ghost use Rattle.std.specs.Prelude.{◌≡◌, ◌++◌, List, ℕ, IfOk, OnOk, OnErr, string_bytes};
 ghost use Rattle.brick_spec.specs.CaptureFault.{Stands};
-ghost use Rattle.brick_spec.specs.Report as spec;
+ghost use Rattle.chain_spec.specs.Report as spec;
 ghost use Rattle.pcap_io.specs.View.{StandsIn};
 ghost use Rattle.bricks_main.specs.View.{refusal_view};
 
@@ -46,7 +46,7 @@ fn hex_byte(alloc: Global, byte: u8) -> Result<String, NoMemory>
 }
 
 /// A word in eight hexadecimal digits, the highest first.
-#[tactic(auto, unfolding(brick_spec::specs::Report::hex_word, brick_spec::specs::Bytes::four_bytes))]
+#[tactic(auto, unfolding(chain_spec::specs::Report::hex_word, brick_spec::specs::Bytes::four_bytes))]
 fn hex_text(alloc: Global, word: u32) -> Result<String, NoMemory>
     ensures { IfOk result (λ text. string_bytes text ≡ spec.hex_word word) }
 {
@@ -60,7 +60,7 @@ fn hex_text(alloc: Global, word: u32) -> Result<String, NoMemory>
 }
 
 /// The number and the name of a fault, and what it says.
-#[tactic(auto, unfolding(brick_spec::specs::Report::fault_text))]
+#[tactic(auto, unfolding(chain_spec::specs::Report::fault_text))]
 pub fn refusal_text(alloc: Global, refusal: Refusal) -> Result<String, NoMemory>
     ensures { IfOk result (λ text. string_bytes text ≡ spec.fault_text (refusal_view refusal)) }
 {

@@ -1,17 +1,19 @@
 //! How a run ends, and the text that tells it.
 ghost use Rattle.std.specs.Prelude.{◌≡◌, ◌++◌, ℕ, List, IfOk, OnOk, flat_map, map, codes, decimal, string_bytes, length};
 ghost use Rattle.std.specs.List.{list_all};
-ghost use Rattle.brick_spec.specs.Report as spec;
-ghost use Rattle.bricks_main.specs.View.{refusal_view, tally_view, output_view, end_view, line_view, outcome_view};
+ghost use Rattle.chain_spec.specs.Report as spec;
+ghost use Rattle.chain_text.specs.Gives.{seen};
+ghost use Rattle.bricks_main.specs.View.{refusal_view, tally_view, output_view, end_view, line_view, refused_view, outcome_view};
 
 use crate::refusal::{Refusal, refusal_text};
-use brick_base::NoMemory;
+use brick_base::{Name, NoMemory};
+use chain_file::{ChainFault, fault_text};
 use std::alloc::Global;
 
 /// An output by its name, and how many items it has.
 #[derive(Debug, Drop)]
 pub struct Output {
-    pub name: String,
+    pub name: Name,
     pub items: u32,
 }
 
@@ -45,7 +47,7 @@ pub enum TenantEnd {
 /// What is told of a tenant.
 #[derive(Debug, Drop)]
 pub struct Line {
-    pub name: String,
+    pub name: Name,
     pub end: TenantEnd,
 }
 
@@ -54,18 +56,20 @@ pub struct Line {
 pub enum Outcome {
     /// The words are no line.
     Usage,
-    /// The chain file was read and is not accepted.
-    ChainsRefused,
+    /// The chain file was read and is not accepted. This is its first fault, or memory ran out before it was found.
+    ChainsRefused(ChainFault),
     /// Reading the chain file failed.
     StoreFault,
     /// Memory ran out.
     NoMemory,
+    /// The chain file is accepted. These are the names of its tenants, which are not run.
+    Checked(Vec<Name>),
     /// A line for each tenant.
     Reported(Vec<Line>),
 }
 
 /// How many records there are, and how many were accepted and refused.
-#[tactic(auto, unfolding(brick_spec::specs::Report::records_text))]
+#[tactic(auto, unfolding(chain_spec::specs::Report::records_text))]
 fn records_text(alloc: Global, tally: &Tally) -> Result<String, NoMemory>
     ensures { IfOk result (λ text. string_bytes text ≡ spec.records_text (tally_view tally.now)) }
 {
@@ -91,7 +95,7 @@ fn three_counts(
 }
 
 /// How many items were dropped for each reason.
-#[tactic(auto, unfolding(brick_spec::specs::Report::drops_text))]
+#[tactic(auto, unfolding(chain_spec::specs::Report::drops_text))]
 fn drops_text(alloc: Global, drops: &[u32; 9]) -> Result<String, NoMemory>
     ensures { IfOk result (λ text. string_bytes text ≡ spec.drops_text drops.now) }
 {
@@ -193,15 +197,49 @@ fn report_text(alloc: Global, lines: &[Line]) -> Result<String, NoMemory>
     Ok(text)
 }
 
+/// Puts the line of a tenant that is not run behind the text.
+fn push_ok(text: &mut String, name: &str) -> Result<(), NoMemory>
+    ensures { OnOk result (string_bytes text.new ≡ string_bytes text.old ++ spec.ok_text name.now) }
+{
+    text.push_str(name)?;
+    text.push_str(" ok\n")?;
+    Ok(())
+}
+
+/// The report of the tenants that are not run.
+fn names_text(alloc: Global, names: &[Name]) -> Result<String, NoMemory>
+    ensures { IfOk result (λ text. string_bytes text ≡ flat_map spec.ok_text names.now) }
+{
+    let mut text = String::new(alloc);
+    for name in names {
+        push_ok(&mut text, name.as_str())?;
+    }
+    Ok(text)
+}
+
+/// The line of a chain file's first fault, or that of want of memory where it was not found.
+fn refused_text(alloc: Global, fault: &ChainFault) -> Result<String, NoMemory>
+    ensures { IfOk result (λ text. string_bytes text ≡ spec.outcome_text (refused_view (seen fault.now))) }
+{
+    match fault {
+        ChainFault::NoMemory => {
+            let text = String::from_str(alloc, "out of memory\n")?;
+            Ok(text)
+        }
+        _ => fault_text(alloc, fault),
+    }
+}
+
 /// The text that tells the outcome.
 pub fn outcome_text(alloc: Global, outcome: &Outcome) -> Result<String, NoMemory>
     ensures { IfOk result (λ text. string_bytes text ≡ spec.outcome_text (outcome_view outcome.now)) }
 {
     let text = match outcome {
         Outcome::Usage => "usage: bricks [--workers N] MODE CHAINS OUT\n",
-        Outcome::ChainsRefused => "chains: 0 FirstForm\n",
         Outcome::StoreFault => "store-fault\n",
         Outcome::NoMemory => "out of memory\n",
+        Outcome::ChainsRefused(fault) => return refused_text(alloc, fault),
+        Outcome::Checked(names) => return names_text(alloc, names),
         Outcome::Reported(lines) => return report_text(alloc, lines),
     };
     let text = String::from_str(alloc, text)?;
@@ -227,15 +265,26 @@ fn all_done(lines: &[Line]) -> bool
     true
 }
 
+/// The exit status of a chain file that is not accepted, or of want of memory where its first fault was not found.
+fn status_of_refused(fault: &ChainFault) -> u8
+    ensures { result ≡ spec.status_of (refused_view (seen fault.now)) }
+{
+    match fault {
+        ChainFault::NoMemory => 6,
+        _ => 3,
+    }
+}
+
 /// The exit status of the outcome, where its text was written.
 pub fn status_of(outcome: &Outcome) -> u8
     ensures { result ≡ spec.status_of (outcome_view outcome.now) }
 {
     match outcome {
         Outcome::Usage => 2,
-        Outcome::ChainsRefused => 3,
+        Outcome::ChainsRefused(fault) => status_of_refused(fault),
         Outcome::StoreFault => 4,
         Outcome::NoMemory => 6,
+        Outcome::Checked(_) => 0,
         Outcome::Reported(lines) => { if all_done(lines) { 0 } else { 1 } }
     }
 }

@@ -3,15 +3,14 @@ ghost use Rattle.std.specs.Prelude.{◌≡◌, ◌≢◌, ◌≤◌, ◌↔◌, 
 ghost use Rattle.brick_spec.specs.AcceptedWords.{Inline, Check, Line, line_of, IsLine};
 ghost use Rattle.brick_spec.specs.Cause.{Rose};
 ghost use Rattle.brick_spec.specs.Files.{AppendsFront};
-ghost use Rattle.brick_spec.specs.Report.{Usage, HasReport};
-ghost use Rattle.brick_spec.specs.Promise.{seen, Told, Shown, CommandLinePromise, UsagePromise, InlinePromises};
-ghost use Rattle.bricks_main.specs.Check.{CheckTold, CheckShown, CheckPromises};
-ghost use Rattle.bricks_main.specs.CheckView.{check_view};
+ghost use Rattle.chain_spec.specs.Report.{Usage, HasReport};
+ghost use Rattle.chain_spec.specs.Promise.{seen, Told, Shown, CommandLinePromise, UsagePromise, InlinePromises};
+ghost use Rattle.chain_spec.specs.Check.{CheckPromises};
 ghost use Rattle.bricks_main.specs.Lines.{LinePromises};
 ghost use Rattle.bricks_main.specs.View.{outcome_view};
 ghost use Rattle.command_line.specs.View.{line_view};
 
-use crate::check::{CheckOutcome, check_files, check_status, check_text, is_checked};
+use crate::check::check_files;
 use crate::inline::run_files;
 use crate::report::{Outcome, outcome_text, status_of};
 use brick_base::NoMemory;
@@ -19,11 +18,11 @@ use command_line::{CommandLine, Mode, read_words};
 use std::alloc::Global;
 use store_io::{IoFault, Sink, Store};
 
-/// Whether the outcome is a report of the tenants.
+/// Whether the outcome has lines of the tenants.
 fn has_report(outcome: &Outcome) -> bool
     ensures { IsTrue result ↔ HasReport (outcome_view outcome.now) }
 {
-    matches!(outcome, Outcome::Reported(_))
+    matches!(outcome, Outcome::Reported(_) | Outcome::Checked(_))
 }
 
 /// Tells that memory ran out. The answer is the exit status 6.
@@ -55,23 +54,6 @@ fn tell<P: Sink>(alloc: Global, sink: &mut P, outcome: &Outcome) -> u8
                 status_of(outcome)
             }
         }
-    }
-}
-
-/// Tells how a check ended by its text. A report whose write fails gives 5, and want of memory 6.
-fn tell_check<P: Sink>(alloc: Global, sink: &mut P, outcome: &CheckOutcome) -> u8
-    ensures told { CheckTold (check_view outcome.now) result }
-    ensures fault { result ≡ 5 → Rose (P.faults sink.old) (P.faults sink.new) }
-    ensures shown { IsTrue P.tells → CheckShown (check_view outcome.now) (P.written sink.old) (P.written sink.new) (P.faults sink.old) (P.faults sink.new) result }
-{
-    let Ok(text) = check_text(alloc, outcome) else {
-        return tell_no_memory(sink);
-    };
-    match sink.write(text.as_bytes()) {
-        Ok(()) => check_status(outcome),
-        Err(IoFault::NoMemory) => 6,
-        Err(IoFault::Failed) if is_checked(outcome) => 5,
-        Err(IoFault::Failed) => check_status(outcome),
     }
 }
 
@@ -114,7 +96,7 @@ pub fn run_check<S: Store, P: Sink>(
         (seen (S.file store.new) (S.faults store.new) (P.written out.new) (P.faults out.new)) result }
 {
     let outcome = check_files(alloc, store, chains, out_dir);
-    tell_check(alloc, out, &outcome)
+    tell(alloc, out, &outcome)
 }
 
 /// Does what a line says. The answer is the exit status.

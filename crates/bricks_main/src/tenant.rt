@@ -1,16 +1,16 @@
 //! What a chain makes of a capture, record after record.
 ghost use Rattle.std.specs.Prelude.{◌≡◌, ◌+◌, ◌<◌, ◌^◌, length, map, IfOk, OnOk};
-ghost use Rattle.brick_spec.specs.Stage.{stage_of};
-ghost use Rattle.bricks_main.specs.View.{chain_view, stage_view};
+ghost use Rattle.chain_spec.specs.Tenant.{item_stages};
+ghost use Rattle.chain_file.specs.View.{chain_view};
 ghost use Rattle.bricks_main.specs.Progress.{first, so_far};
 ghost use Rattle.bricks_main.specs.ProgressView.{progress_view};
 ghost use Rattle.bricks_main.specs.PathView.{Carries, WaitsIn};
 
-use crate::chain::Chain;
 use crate::frames::is_other;
 use crate::path::{Path, let_wait, make_way, run_batch, start_path};
 use crate::progress::{Progress, count_drop};
 use brick_base::{NoMemory, Reason};
+use chain_file::Chain;
 use pcap_io::{Capture, Writer};
 use std::alloc::Global;
 
@@ -25,9 +25,9 @@ fn take_record(
 ) -> Result<(), NoMemory>
     requires there { k < length capture.now.entries }
     requires below { k + 1 < 2 ^ 32 }
-    requires path { Carries (map stage_of (map stage_view chain.now.stages.items)) chain.now.bytes path.old }
+    requires path { Carries (item_stages (chain_view chain.now)) chain.now.bytes path.old }
     requires before { WaitsIn (chain_view chain.now) (first k capture.now) (progress_view progress.old) path.old }
-    ensures path { OnOk result (Carries (map stage_of (map stage_view chain.now.stages.items)) chain.now.bytes path.new) }
+    ensures path { OnOk result (Carries (item_stages (chain_view chain.now)) chain.now.bytes path.new) }
     ensures after { OnOk result (WaitsIn (chain_view chain.now) (first (k + 1) capture.now) (progress_view progress.new) path.new) }
 {
     let entry = capture.entry(k);
@@ -51,7 +51,7 @@ pub fn take_records(alloc: Global, chain: &Chain, capture: &Capture) -> Result<P
         drops: [0; 9],
         passed: 0,
     };
-    let mut path = start_path(alloc, &chain.stages)?;
+    let mut path = start_path(alloc, chain)?;
     for k in 0..capture.count() {
         take_record(alloc, chain, capture, k, &mut path, &mut progress)?;
     }

@@ -1,8 +1,8 @@
 //! The worked examples of a run, over a store and a sink in memory.
-use crate::chain_file::read_chain_file;
 use crate::plain::{Made, plain_made};
 use crate::run::run_words;
 use brick_base::{NoMemory, Reason};
+use chain_file::ChainSet;
 use pcap_io::{Capture, Writer};
 use std::alloc::Global;
 use std::process::Abort;
@@ -55,6 +55,14 @@ const TCP_CHAINS: &str =
 
 const COLLIDING_CHAINS: &str =
     "version = 1\n[[tenant]]\nname = \"a\"\ncapture = \"out/a.g.pcap\"\nstages = [{ stage = \"ttl\" }, { stage = \"only\", match = { proto = \"udp\" } }]\n[[tenant.group]]\nname = \"g\"\n";
+
+/// Frames of class Other are dropped, and of the others those are kept that go to one network and one port.
+const OTHER_CHAINS: &str =
+    "version = 1\n[[tenant]]\nname = \"a\"\ncapture = \"a.pcap\"\nunparsed = \"drop\"\nstages = [{ stage = \"set_tos\", value = 8 }, { stage = \"only\", match = { dst = \"10.1.0.0/16\", dport = 53 } }, { stage = \"ttl\" }]\n[[tenant.group]]\nname = \"g\"\n";
+
+/// Frames of more than 64 bytes are Big, and there is no stage.
+const SHORT_CHAINS: &str =
+    "version = 1\n[[tenant]]\nname = \"a\"\ncapture = \"a.pcap\"\nbytes = 64\n[[tenant.group]]\nname = \"g\"\n";
 
 /// How many records there are, were accepted, are Big, and were dropped by `only`, and how many items the output has.
 fn done_line(
@@ -379,8 +387,16 @@ fn chain_files_that_are_checked(rt: HostRuntime) -> Result<(), Fail> {
     let alloc = rt.alloc();
     let table = [
         ("c.toml", UDP_CHAINS, (0, "a ok\n")),
-        ("c.toml", COLLIDING_CHAINS, (3, "chains: 0 FirstForm\n")),
-        ("c.toml", "", (3, "chains: 0 FirstForm\n")),
+        (
+            "c.toml",
+            COLLIDING_CHAINS,
+            (3, "chains: 9 Collides out/a.g.pcap\n"),
+        ),
+        (
+            "c.toml",
+            "",
+            (3, "chains: 2 Missing place=0 key=version\n"),
+        ),
         ("missing.toml", UDP_CHAINS, (4, "store-fault\n")),
     ];
     for (name, chains, ends) in table {
@@ -422,7 +438,12 @@ fn the_write_of_a_check_failing(rt: HostRuntime) -> Result<(), Fail> {
 #[test]
 fn chain_files_that_are_refused(rt: HostRuntime) -> Result<(), Fail> {
     let alloc = rt.alloc();
-    for chains in [COLLIDING_CHAINS, "", "version = 1\n"] {
+    for (chains, told) in [
+        (COLLIDING_CHAINS, "chains: 9 Collides out/a.g.pcap\n"),
+        ("", "chains: 2 Missing place=0 key=version\n"),
+        ("a = ", "chains: 1 NotToml\n"),
+        ("version = 1\n", "chains: 2 Missing place=0 key=tenant\n"),
+    ] {
         let run = run(
             alloc,
             INLINE.as_slice(),
@@ -432,7 +453,7 @@ fn chain_files_that_are_refused(rt: HostRuntime) -> Result<(), Fail> {
             Vec::new(alloc),
         )?;
         assert_eq!(rt; run.status, 3);
-        assert!(rt; run.told == b"chains: 0 FirstForm\n".to_vec(alloc)?);
+        assert!(rt; run.told == told.as_bytes().to_vec(alloc)?, "{told}");
         assert!(rt; run.output.is_none());
         assert!(rt; run.refused.is_none());
     }
@@ -585,6 +606,35 @@ fn a_record_that_is_big(rt: HostRuntime) -> Result<(), Fail> {
     Ok(())
 }
 
+/// A capture of one ARP frame of 60 bytes.
+fn one_other_frame(alloc: Global) -> Result<Vec<u8>, Fail> {
+    let mut frame = [0u8; 60];
+    frame[12] = 8;
+    frame[13] = 6;
+    let head = [0, 0, 0, 0, 0, 0, 0, 0, 60, 0, 0, 0, 60, 0, 0, 0u8];
+    joined(
+        alloc,
+        &[HEADER.as_slice(), head.as_slice(), frame.as_slice()],
+    )
+}
+
+/// A frame without the IPv4 layer is written as it came, or dropped as Unparsed.
+#[test]
+fn a_frame_that_is_not_ipv4(rt: HostRuntime) -> Result<(), Fail> {
+    let alloc = rt.alloc();
+    let capture = one_other_frame(alloc)?;
+    let none = || Vec::new(alloc);
+    let passed = run(alloc, INLINE.as_slice(), TCP_CHAINS, &capture, none(), none())?;
+    assert_eq!(rt; passed.status, 0);
+    assert!(rt; passed.told == done_line(alloc, 1, 1, 0, 0, 1)?.into_bytes());
+    assert!(rt; passed.output == Some(capture.clone()?));
+    let dropped = run(alloc, INLINE.as_slice(), OTHER_CHAINS, &capture, none(), none())?;
+    assert_eq!(rt; dropped.status, 0);
+    assert!(rt; dropped.told == b"a done records=1 accepted=1 refused=0 Big=0 Unparsed=1 Fire=0 NoRoute=0 Ttl=0 NatFull=0 Filter=0 NoGroup=0 Reach=0 /g=0\n".to_vec(alloc)?);
+    assert!(rt; dropped.output == Some(HEADER.to_vec(alloc)?));
+    Ok(())
+}
+
 /// How often the reason stands in the list.
 fn count(reasons: &[Reason], reason: Reason) -> usize {
     let mut count = 0usize;
@@ -599,12 +649,13 @@ fn count(reasons: &[Reason], reason: Reason) -> usize {
 /// The line of the plain function's counts.
 fn plain_line(alloc: Global, records: u32, made: &Made) -> Result<String, Fail> {
     let big = count(&made.dropped, Reason::Big);
+    let unparsed = count(&made.dropped, Reason::Unparsed);
     let ttl = count(&made.dropped, Reason::Ttl);
     let filter = count(&made.dropped, Reason::Filter);
     let accepted = (records as usize).saturating_sub(big);
     let items = made.items.len();
     let line = format!(in alloc;
-        "a done records={records} accepted={accepted} refused=0 Big={big} Unparsed=0 Fire=0 NoRoute=0 Ttl={ttl} NatFull=0 Filter={filter} NoGroup=0 Reach=0 /g={items}\n"
+        "a done records={records} accepted={accepted} refused=0 Big={big} Unparsed={unparsed} Fire=0 NoRoute=0 Ttl={ttl} NatFull=0 Filter={filter} NoGroup=0 Reach=0 /g={items}\n"
     )?;
     Ok(line)
 }
@@ -645,14 +696,16 @@ fn agree(rt: &impl Abort, alloc: Global, chains: &str, capture: &[u8]) -> Result
         Vec::new(alloc),
         Vec::new(alloc),
     )?;
-    let chain = read_chain_file(alloc, chains.as_bytes(), "c.toml", "out")?.ok_or("no chain")?;
+    let set = ChainSet::read(alloc, chains.as_bytes(), "c.toml", "out")
+        .ok()
+        .ok_or("no chain")?;
     if capture.len() > 33554432 {
         return Err("the capture is too long".into());
     }
     let read = Capture::read(alloc, capture.to_vec(alloc)?)
         .ok()
         .ok_or("no capture")?;
-    let made = plain_made(alloc, &chain, &read)?;
+    let made = plain_made(alloc, set.chain(0), &read)?;
     assert_eq!(rt; ended.status, 0);
     assert!(rt; ended.told == plain_line(alloc, read.count(), &made)?.into_bytes());
     assert!(rt; ended.output == Some(plain_output(alloc, &made)?));
@@ -680,6 +733,8 @@ fn runs_agree_with_the_plain_meaning(rt: HostRuntime) -> Result<(), Fail> {
     agree(&rt, alloc, TCP_CHAINS, &capture)?;
     agree(&rt, alloc, UDP_CHAINS, &one_frame(alloc)?)?;
     agree(&rt, alloc, UDP_CHAINS, HEADER.as_slice())?;
+    agree(&rt, alloc, OTHER_CHAINS, &capture)?;
+    agree(&rt, alloc, SHORT_CHAINS, &capture)?;
     Ok(())
 }
 

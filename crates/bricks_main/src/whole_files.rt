@@ -49,9 +49,9 @@ impl From<IoFault> for ReadFault {
 
 /// A file's name, and the bytes that are written there.
 #[derive(Debug, Drop)]
-pub struct Text {
+pub struct Text<'a> {
     pub name: String,
-    pub bytes: Vec<u8>,
+    pub bytes: &'a [u8],
 }
 
 /// A buffer of zeros.
@@ -134,7 +134,7 @@ fn write_whole<S: Store>(
 }
 
 /// Writes each file, one after another, until one fails. Those behind it are not touched.
-pub fn write_texts<S: Store>(store: &mut S, account: u32, texts: &[Text]) -> Result<(), IoFault>
+pub fn write_texts<S: Store>(store: &mut S, account: u32, texts: &[Text<'_>]) -> Result<(), IoFault>
     requires account { IsWriting account }
     requires distinct { AreDistinct (map text_view texts.now) }
     ensures files { IsTrue S.tells → WritesTexts (IsOk result) (λ t. IsErrOf result IoFault.Failed → Rose (S.faults store.old account t.name) (S.faults store.new account t.name)) (map text_view texts.now) (S.file store.old) (S.file store.new) }
@@ -144,7 +144,7 @@ pub fn write_texts<S: Store>(store: &mut S, account: u32, texts: &[Text]) -> Res
     let Some((first, rest)) = texts.split_first() else {
         return Ok(());
     };
-    match write_whole(store, account, first.name.as_str(), &first.bytes) {
+    match write_whole(store, account, first.name.as_str(), first.bytes) {
         Ok(()) => write_texts(store, account, rest),
         Err(fault) => Err(fault),
     }

@@ -1,8 +1,8 @@
 -- Some chain files and what they give, and the lines of faults.
-use Rattle.std.specs.Prelude.{◌≡◌, ℕ, List, [], ◌∷◌, ◌++◌, Some, None, Result, Ok, Err, codes}
+use Rattle.std.specs.Prelude.{◌≡◌, ◌<◌, ℕ, List, [], ◌∷◌, ◌++◌, length, Some, None, Result, Ok, Err, codes}
 use Rattle.chain_spec.specs.ChainFault.{ChainFault, NotToml, Missing, Unknown, Range, Name, TooManyTenants, Collides, TooLong, fault_text}
 use Rattle.chain_spec.specs.ChainSet.{Chain, DryDrop, UnparsedPass, Ttl, SetTos, Only}
-use Rattle.chain_spec.specs.ChainWalk.{read_chains}
+use Rattle.chain_spec.specs.ChainWalk.{longest_chain_file, read_chains}
 
 -- what a chain file `c.toml` gives for the folder `out`
 abbrev read : List ℕ → Result (List Chain) ChainFault
@@ -56,6 +56,10 @@ pub record Samples : Type 0 where
   pub no_tenant : read (codes "version = 1\ntenant = []\n") ≡ Err (Range 0 (codes "tenant"))
   pub no_table : read (codes "version = 1\ntenant = [1]\n") ≡ Err (Range 0 (codes "tenant"))
   pub two_groups : read (with_line (codes "[[tenant.group]]\nname = \"dns\"")) ≡ Err (Range 1 (codes "group"))
+
+-- a file of more bytes than are read is TooLong, whatever they are
+abbrev pub LongRefused : Type 0
+LongRefused = (own out bytes : List ℕ) → longest_chain_file < length bytes → read_chains own out bytes ≡ Err TooLong
 
 pub record Texts : Type 0 where
   pub not_toml : fault_text NotToml ≡ codes "chains: 1 NotToml\n"

@@ -1,7 +1,7 @@
 //! The names of a tenant's files.
 
 ghost use Rattle.std.specs.Prelude.{◌≡◌, IfOk, string_bytes};
-ghost use Rattle.brick_spec.specs.Chain as spec;
+ghost use Rattle.chain_spec.specs.ChainSet as spec;
 
 use brick_base::NoMemory;
 use std::alloc::Global;

@@ -1,10 +1,15 @@
 //! Laws on the definition of accepted chain files.
 
-ghost use Rattle.chain_file.specs.Laws.{Samples, Texts};
+ghost use Rattle.chain_file.specs.Laws.{LongRefused, Samples, Texts};
 
 /// A law: some chain files, and what they give.
 pub fn samples()
     ensures { Samples }
+{}
+
+/// A law: a file of more than 1,048,576 bytes is TooLong.
+pub fn long_refused()
+    ensures { LongRefused }
 {}
 
 /// A law: the lines of some faults.

@@ -1,6 +1,6 @@
 //! The chains of a chain file.
 
-ghost use Rattle.std.specs.Prelude.{◌≡◌, ◌<◌, ◌≤◌, Some, length, map};
+ghost use Rattle.std.specs.Prelude.{◌≡◌, ◌<◌, ◌≤◌, IfOk, Some, length, map};
 ghost use Rattle.std.specs.List.{slice_get};
 ghost use Rattle.chain_spec.specs.ChainWalk as spec;
 ghost use Rattle.chain_text.specs.Gives.{Gives};
@@ -35,7 +35,8 @@ impl ChainSet {
     /// 1,048,576.
     #[tactic(auto, unfolding(chain_spec::specs::ChainWalk::read_chains))]
     pub fn read(alloc: Global, bytes: &[u8], own: &str, out: &str) -> Result<ChainSet, ChainFault>
-        ensures { Gives (map chain_view) result (spec.read_chains own.now out.now bytes.now) }
+        ensures value { Gives (map chain_view) result (spec.read_chains own.now out.now bytes.now) }
+        ensures most { IfOk result (λ set. length set ≤ spec.most_tenants) }
     {
         let table = table_of(alloc, bytes)?;
         let chains = top(alloc, &table)?;

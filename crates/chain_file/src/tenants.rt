@@ -161,7 +161,7 @@ fn tenants(alloc: Global, array: &Array) -> Result<Vec<Chain>, ChainFault>
 #[tactic(auto, unfolding(chain_spec::specs::ChainWalk::tenants_in))]
 fn tenants_in(alloc: Global, value: &Value) -> Result<Vec<Chain>, ChainFault>
     ensures value { Gives (λ v. map chain_view v.items) result (spec.tenants_in (view value.now)) }
-    ensures count { IfOk result (λ v. (1 ≤ length v.items) × (length v.items ≤ 16)) }
+    ensures count { IfOk result (λ v. (1 ≤ length v.items) × (length v.items ≤ spec.most_tenants)) }
 {
     let Some(array) = value.as_array() else {
         return Err(range(alloc, 0, "tenant"));
@@ -182,7 +182,7 @@ fn tenants_in(alloc: Global, value: &Value) -> Result<Vec<Chain>, ChainFault>
 #[tactic(auto, unfolding(chain_spec::specs::ChainWalk::top))]
 pub(crate) fn top(alloc: Global, table: &Table) -> Result<Vec<Chain>, ChainFault>
     ensures value { Gives (λ v. map chain_view v.items) result (spec.top (table_view table.now)) }
-    ensures count { IfOk result (λ v. (1 ≤ length v.items) × (length v.items ≤ 16)) }
+    ensures count { IfOk result (λ v. (1 ≤ length v.items) × (length v.items ≤ spec.most_tenants)) }
 {
     let row = ["version", "tenant"];
     known(alloc, 0, row.as_slice(), table)?;

@@ -1,9 +1,8 @@
 -- The chains that a chain file gives: a chain for each tenant, and the names of its files.
-use Rattle.std.specs.Prelude.{ℕ, ◌+◌, List, [], ◌∷◌, ◌++◌, map, flat_map, Bool, true, not, ◌&&◌, Option, Some, None, unwrap_or, if◌then◌else◌}
+use Rattle.std.specs.Prelude.{ℕ, ◌+◌, List, [], ◌∷◌, ◌++◌, map, flat_map, Bool, true, not, ◌&&◌, Option, Some, None, unwrap_or, codes, if◌then◌else◌}
 use Rattle.std.specs.List.{list_any, position}
 use Rattle.std.specs.Str.{bytes_eq}
 use Rattle.brick_spec.specs.Match.{Match}
-use Rattle.brick_spec.specs.Chain.{output_file, refused_file}
 
 -- what a tenant does where no buffer is free: it waits, or drops the record
 pub data Dry : Type 0 where
@@ -111,6 +110,14 @@ chain_of name capture settings stages groups = record {
 }
 
 -- FILES
+
+-- the file of an output, `OUT/NAME.GROUP.pcap`
+abbrev pub output_file : List ℕ → List ℕ → List ℕ → List ℕ
+output_file out name group = out ++ (codes "/" ++ (name ++ (codes "." ++ (group ++ codes ".pcap"))))
+
+-- the file of the numbers of the refused records, `OUT/NAME.refused`
+abbrev pub refused_file : List ℕ → List ℕ → List ℕ
+refused_file out name = out ++ (codes "/" ++ (name ++ codes ".refused"))
 
 -- the files of a tenant, in the order in which they are written: one for each output, and then that of the refused records
 abbrev pub file_names : List ℕ → Chain → List (List ℕ)

@@ -1,12 +1,13 @@
 -- WHAT A RUN PROMISES, one fact a promise: of the words, of the store and the sink as they were and as they are, and of the status.
-use Rattle.std.specs.Prelude.{◌≡◌, ◌≢◌, ◌⊎◌, ℕ, ◌≤◌, ◌<◌, List, [], ◌∷◌, ◌++◌, length, IsSomeAnd, if◌then◌else◌, ◌==◌}
+use Rattle.std.specs.Prelude.{◌≡◌, ◌≢◌, ◌⊎◌, ℕ, ◌≤◌, ◌<◌, List, [], ◌∷◌, ◌++◌, length, IsSomeAnd, Ok, Err, if◌then◌else◌, ◌==◌}
 use Rattle.std.specs.List.{AllByRecursion}
 use Rattle.brick_spec.specs.Capture.{Contents, IsReadable, longest_capture}
 use Rattle.brick_spec.specs.CaptureFault.{CaptureFault, Stands}
-use Rattle.brick_spec.specs.Chain.{Chain, file_names}
-use Rattle.brick_spec.specs.ChainFile.{IsChainFile, IsAccepted}
-use Rattle.brick_spec.specs.Tenant.{Tally, tally_of, texts_of}
-use Rattle.brick_spec.specs.Report.{TenantEnd, Done, TooLong, BadCapture, ReadFault, WriteFault, Line, line_text, Outcome, Usage, ChainsRefused, StoreFault, NoMemory, Reported, outcome_text, status_of, IsAllDone, HasOther, HasReport}
+use Rattle.chain_spec.specs.ChainFault.{ChainFault}
+use Rattle.chain_spec.specs.ChainSet.{Chain, file_names}
+use Rattle.chain_spec.specs.ChainWalk.{read_chains}
+use Rattle.chain_spec.specs.Tenant.{Tally, tally_of, texts_of}
+use Rattle.chain_spec.specs.Report.{TenantEnd, Done, TooLong, BadCapture, ReadFault, WriteFault, Line, line_text, Outcome, Usage, ChainsRefused, StoreFault, NoMemory, Checked, Reported, outcome_text, status_of, IsAllDone, HasOther, HasReport}
 use Rattle.brick_spec.specs.Cause.{Rose, chains_account, reading_account, writing_account}
 use Rattle.brick_spec.specs.Files.{Files, FaultCounts, AllStay, AppendsFront}
 use Rattle.brick_spec.specs.Texts.{Holds, OthersStayOf, StopsWithin, MayWrite, SomeRose}
@@ -36,11 +37,15 @@ CountRose account name before now = Rose (before.faults account name) (now.fault
 
 -- the chain file is held, and is accepted with this chain
 abbrev pub Says : List ℕ → List ℕ → Files → Chain → Type 0
-Says chains out files chain = IsSomeAnd (files chains) (λ bytes. IsChainFile chains out bytes chain)
+Says chains out files chain = IsSomeAnd (files chains) (λ bytes. read_chains chains out bytes ≡ Ok (chain ∷ []))
+
+-- the chain file is held, and is not accepted: this is its first fault
+abbrev pub Refuses : List ℕ → List ℕ → Files → ChainFault → Type 0
+Refuses chains out files fault = IsSomeAnd (files chains) (λ bytes. read_chains chains out bytes ≡ Err fault)
 
 -- the chain file is held, and is not accepted
 abbrev pub IsRefused : List ℕ → List ℕ → Files → Type 0
-IsRefused chains out files = IsSomeAnd (files chains) (λ bytes. ¬ (IsAccepted chains out bytes))
+IsRefused chains out files = (fault : ChainFault) × Refuses chains out files fault
 
 -- the chain's capture is held, and is read as this
 abbrev pub Captured : Files → Chain → Contents → Type 0
@@ -139,9 +144,10 @@ pub record IsReportOf (tells : Type 0) (chains out : List ℕ) (before now : Hel
 -- what is true of the inputs, the files and the counts of faults, by how the run ended
 abbrev pub IsTrueOf : Type 0 → List ℕ → List ℕ → Held → Held → Outcome → Type 0
 IsTrueOf tells chains out before now Usage = ⊥
-IsTrueOf tells chains out before now ChainsRefused = tells → IsRefused chains out before.files × AllStay before.files now.files
+IsTrueOf tells chains out before now (ChainsRefused fault) = tells → Refuses chains out before.files fault × AllStay before.files now.files
 IsTrueOf tells chains out before now StoreFault = CountRose chains_account chains before now × (tells → AllStay before.files now.files)
 IsTrueOf tells chains out before now NoMemory = tells → MayHaveWritten chains out before.files now.files
+IsTrueOf tells chains out before now (Checked names) = ⊥
 IsTrueOf tells chains out before now (Reported lines) = IsReportOf tells chains out before now lines
 
 -- no count of faults rose
@@ -174,11 +180,14 @@ pub record UsagePromise (before now : Seen) (status : ℕ) : Type 0 where
   pub shown : status ≡ 2 → Shown Usage before.written now.written before.sink_faults now.sink_faults status
 
 -- Chain file: status 3 comes exactly where the chain file was read and is not accepted. No file is then made or changed.
--- Where it is held and not accepted, only a fault of reading it or want of memory gives another status.
-pub record ChainFilePromise (chains out : List ℕ) (before now : Seen) (status : ℕ) : Type 0 where
+-- Where it is held and not accepted, only a fault of reading it or want of memory gives another status. Under status 3 the sink is
+-- told the line of its first fault.
+pub record ChainFilePromise (shows : Type 0) (chains out : List ℕ) (before now : Seen) (status : ℕ) : Type 0 where
   pub refused : status ≡ 3 → IsRefused chains out before.store.files
   pub comes : IsRefused chains out before.store.files → (status ≡ 3) ⊎ ((status ≡ 4) × CountRose chains_account chains before.store now.store) ⊎ (status ≡ 6)
   pub files : IsRefused chains out before.store.files → AllStay before.store.files now.store.files
+  pub shown : shows → status ≡ 3 → (fault : ChainFault) → Refuses chains out before.store.files fault
+      → Shown (ChainsRefused fault) before.written now.written before.sink_faults now.sink_faults status
 
 -- Store faults: status 4 comes only where the chain file was not read: the count of its account on its name rose in this call.
 -- No file is then made or changed.
@@ -244,7 +253,7 @@ pub record CompletenessPromise (chains out : List ℕ) (before now : Seen) (stat
 pub record InlinePromises (tells shows : Type 0) (chains out : List ℕ) (before now : Seen) (status : ℕ) : Type 0 where
   -- the words are a line here, so the status is not that of words that are none
   pub line : status ≢ 2
-  pub chain_file : tells → ChainFilePromise chains out before now status
+  pub chain_file : tells → ChainFilePromise shows chains out before now status
   pub store_fault : StoreFaultPromise tells chains before now status
   pub sink_fault : SinkFaultPromise before now status
   pub capture : tells → CapturePromise chains out before now status

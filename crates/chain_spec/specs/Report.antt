@@ -3,7 +3,9 @@ use Rattle.std.specs.Prelude.{ℕ, ◌+◌, ◌/◌, ◌%◌, nat_lt, Bool, true
 use Rattle.std.specs.List.{list_all}
 use Rattle.brick_spec.specs.Bytes.{Big, four_bytes}
 use Rattle.brick_spec.specs.CaptureFault.{CaptureFault, ShortHeader, Magic, Version, Link, CutRecord, LongRecord}
-use Rattle.brick_spec.specs.Tenant.{Tally, Output, records_in}
+use Rattle.chain_spec.specs.ChainFault as chains
+use Rattle.chain_spec.specs.ChainFault.{ChainFault}
+use Rattle.chain_spec.specs.Tenant.{Tally, Output, records_in}
 
 -- what became of a tenant
 pub data TenantEnd : Type 0 where
@@ -27,12 +29,14 @@ pub record Line : Type 0 where
 pub data Outcome : Type 0 where
   -- the words are no line
   Usage : Outcome
-  -- the chain file was read and is not accepted
-  ChainsRefused : Outcome
+  -- the chain file was read and is not accepted; this is its first fault
+  ChainsRefused : ChainFault → Outcome
   -- reading the chain file failed
   StoreFault : Outcome
   -- memory ran out
   NoMemory : Outcome
+  -- the chain file is accepted; the names of its tenants, which are not run
+  Checked : List (List ℕ) → Outcome
   -- a line for each tenant
   Reported : List Line → Outcome
 
@@ -85,12 +89,17 @@ end_text WriteFault = codes " write-fault"
 abbrev pub line_text : Line → List ℕ
 line_text l = l.name ++ (end_text l.end ++ codes "\n")
 
+-- `NAME ok`, and a line feed
+abbrev pub ok_text : List ℕ → List ℕ
+ok_text name = name ++ codes " ok\n"
+
 -- the text of an outcome
 abbrev pub outcome_text : Outcome → List ℕ
 outcome_text Usage = codes "usage: bricks [--workers N] MODE CHAINS OUT\n"
-outcome_text ChainsRefused = codes "chains: 0 FirstForm\n"
+outcome_text (ChainsRefused fault) = chains.fault_text fault
 outcome_text StoreFault = codes "store-fault\n"
 outcome_text NoMemory = codes "out of memory\n"
+outcome_text (Checked names) = flat_map ok_text names
 outcome_text (Reported lines) = flat_map line_text lines
 
 abbrev pub is_done : Line → Bool
@@ -110,31 +119,44 @@ AllDone lines = IsTrue (list_all is_done lines)
 -- the exit status of an outcome, where its text was written
 abbrev pub status_of : Outcome → ℕ
 status_of Usage = 2
-status_of ChainsRefused = 3
+status_of (ChainsRefused fault) = 3
 status_of StoreFault = 4
 status_of NoMemory = 6
+status_of (Checked names) = 0
 status_of (Reported lines) = if list_all is_done lines then 0 else 1
 
 -- it ends with a report in which every line is done
 abbrev pub IsAllDone : Outcome → Type 0
 IsAllDone Usage = ⊥
-IsAllDone ChainsRefused = ⊥
+IsAllDone (ChainsRefused fault) = ⊥
 IsAllDone StoreFault = ⊥
 IsAllDone NoMemory = ⊥
+IsAllDone (Checked names) = ⊥
 IsAllDone (Reported lines) = AllDone lines
 
 -- it ends with a report in which some line is not done
 abbrev pub HasOther : Outcome → Type 0
 HasOther Usage = ⊥
-HasOther ChainsRefused = ⊥
+HasOther (ChainsRefused fault) = ⊥
 HasOther StoreFault = ⊥
 HasOther NoMemory = ⊥
+HasOther (Checked names) = ⊥
 HasOther (Reported lines) = ¬ (AllDone lines)
 
--- it ends with a report of the tenants
+-- it ends with lines of the tenants
 abbrev pub HasReport : Outcome → Type 0
 HasReport Usage = ⊥
-HasReport ChainsRefused = ⊥
+HasReport (ChainsRefused fault) = ⊥
 HasReport StoreFault = ⊥
 HasReport NoMemory = ⊥
+HasReport (Checked names) = Unit {0}
 HasReport (Reported lines) = Unit {0}
+
+-- it ends with the names of the tenants, which are not run
+abbrev pub IsChecked : Outcome → Type 0
+IsChecked Usage = ⊥
+IsChecked (ChainsRefused fault) = ⊥
+IsChecked StoreFault = ⊥
+IsChecked NoMemory = ⊥
+IsChecked (Checked names) = Unit {0}
+IsChecked (Reported lines) = ⊥

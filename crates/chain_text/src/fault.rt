@@ -9,7 +9,7 @@ use brick_base::{Name, NoMemory};
 use std::alloc::{AllocError, AllocFailed, Global};
 
 /// The first fault of a chain file. The place is 0 in the top table, and t + 1 within tenant t, counted from 0.
-#[derive(Drop)]
+#[derive(Debug, Drop)]
 pub enum ChainFault {
     /// It is no text, or `toml` refuses the text.
     NotToml,

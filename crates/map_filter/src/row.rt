@@ -6,6 +6,7 @@ ghost use Rattle.batch_ops.specs.Outlet.{buffer_of};
 
 use crate::edits::{TosStage, TtlStage, lower_ttl, set_tos};
 use crate::only::{OnlyStage, keep_wanted};
+use crate::parsed::{ParsedStage, keep_parsed};
 use batch_ops::{Operator, Outlet};
 use brick_base::{Class, NoMemory, Raw, Reason};
 use packet_owner::Packet;
@@ -19,6 +20,8 @@ pub enum AnyStage {
     Tos(TosStage),
     /// Drops what does not meet a match.
     Only(OnlyStage),
+    /// Drops what has no IPv4 layer.
+    Parsed(ParsedStage),
 }
 
 /// A packet that is to be dropped, and why.
@@ -48,6 +51,13 @@ impl AnyStage {
                 Ok(packet) => Ok(packet),
                 Err(packet) => Err(Rejected {
                     reason: Reason::Filter,
+                    packet,
+                }),
+            },
+            AnyStage::Parsed(_) => match keep_parsed(packet) {
+                Ok(packet) => Ok(packet),
+                Err(packet) => Err(Rejected {
+                    reason: Reason::Unparsed,
                     packet,
                 }),
             },

@@ -1,6 +1,6 @@
 ghost use Rattle.std.specs.Prelude.{◌≡◌};
 
-use crate::{AnyStage, Filter, OnlyStage, StageRow, TosStage, Transform, TtlStage};
+use crate::{AnyStage, Filter, OnlyStage, ParsedStage, StageRow, TosStage, Transform, TtlStage};
 use batch_ops::{Batch, Operator, Outlet, Results, Then, Work, run};
 use brick_base::{Class, Dir, Ends, NoMemory, Raw, Reason};
 use eth_ip::Ip4Mut;
@@ -14,6 +14,13 @@ use tcp_udp::{Match, Tuple};
 const FRAME: [u8; 46] = [
     2, 0, 0, 0, 0, 1, 2, 0, 0, 0, 0, 2, 8, 0, 0x45, 0, 0, 0x20, 0, 0, 0x40, 0, 0x40, 0x11, 0x24,
     0xc9, 10, 0, 0, 1, 10, 1, 2, 3, 3, 0xe8, 0, 53, 0, 12, 0x06, 0xe4, 0x70, 0x69, 0x6e, 0x67,
+];
+
+/// An ARP frame of 60 bytes: who has 10.1.2.3, asked by 10.0.0.1.
+const ARP: [u8; 60] = [
+    255, 255, 255, 255, 255, 255, 2, 0, 0, 0, 0, 1, 8, 6, 0, 1, 8, 0, 6, 4, 0, 1, 2, 0, 0, 0, 0, 1,
+    10, 0, 0, 1, 0, 0, 0, 0, 0, 0, 10, 1, 2, 3, 0, 0, 0, 0, 0, 0, 0, 0, 0, 0, 0, 0, 0, 0, 0, 0, 0,
+    0,
 ];
 
 const CLASS: Class = Class {
@@ -152,5 +159,50 @@ fn class_other_passes(rt: HostRuntime) -> Result<(), Fail> {
         AnyStage::Only(OnlyStage { wanted: UDP }),
     ]?;
     expect_passes(&rt, &mut StageRow { stages })?;
+    Ok(())
+}
+
+/// Steps over the ARP frame and over the datagram: the first is dropped as unparsed, and the second passes.
+fn expect_only_parsed<R: Abort + AllocGlobal, O: Operator>(
+    rt: &R,
+    stage: &mut O,
+) -> Result<(), NoMemory>
+    requires ready { O.ready stage.old }
+    requires spares { O.spares stage.old ≡ 0 }
+    requires room { O.least_room stage.old ≡ 0 }
+{
+    let buffer = Buffer::new(rt.alloc(), 7, 64)?;
+    assert!(rt; buffer.room() >= 60);
+    let entry = Entry {
+        seconds: 1,
+        fraction: 2,
+        original: 60,
+        frame: &ARP,
+    };
+    let arp = Packet::fill(buffer, 0, entry);
+    let spare = Spare::new(rt.alloc(), 1, 64)?;
+    let mut out = Outlet::new(rt.alloc(), spare)?;
+    stage.step(&CLASS, arp, &mut out)?;
+    assert_eq!(rt; (out.passed.len(), out.dropped.len()), (0, 1));
+    let dropped = &out.dropped[0];
+    assert_eq!(rt; dropped.reason, Some(Reason::Unparsed));
+    assert_eq!(rt; dropped.packet.payload(), ARP.as_slice());
+    assert_eq!(rt; dropped.packet.slot(), 7);
+    stage.step(&CLASS, packet(rt, 1, 64)?, &mut out)?;
+    assert_eq!(rt; (out.passed.len(), out.dropped.len()), (1, 1));
+    let passed = &out.passed[0].packet;
+    assert_eq!(rt; passed.payload(), FRAME.as_slice());
+    Ok(())
+}
+
+#[test]
+fn unparsed_is_dropped(rt: HostRuntime) -> Result<(), Fail> {
+    expect_only_parsed(&rt, &mut ParsedStage)?;
+    expect_only_parsed(&rt, &mut AnyStage::Parsed(ParsedStage))?;
+    let stages = vec![in rt.alloc();
+        AnyStage::Parsed(ParsedStage),
+        AnyStage::Only(OnlyStage { wanted: UDP }),
+    ]?;
+    expect_only_parsed(&rt, &mut StageRow { stages })?;
     Ok(())
 }

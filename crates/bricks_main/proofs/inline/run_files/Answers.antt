@@ -1,6 +1,7 @@
 use Rattle.std.specs.Prelude.{IsTrue}
-use Rattle.brick_spec.specs.Promise.{held}
-use Rattle.bricks_main.specs.View.{chain_view, outcome_view}
+use Rattle.chain_spec.specs.Promise.{held}
+use Rattle.chain_file.specs.View.{chain_view}
+use Rattle.bricks_main.specs.View.{outcome_view}
 use Rattle.bricks_main.proofs.Runs.{ran_after}
 use Rattle.bricks_main.proofs.inline.run_files.Goals as goal
 

@@ -1,5 +1,5 @@
 use Rattle.std.proofs.Common.{sym, ◌∙◌, subst, take, ◌+◌}
-use Rattle.brick_spec.specs.Tenant.{reason_place}
+use Rattle.chain_spec.specs.Tenant.{reason_place}
 use Rattle.brick_base.specs.Reason.{reason_view}
 use Rattle.bricks_main.specs.Path.{reasons_in, CountsDrops}
 use Rattle.bricks_main.proofs.BatchRuns.{counts_some, counts_none, counts_all, count_fits}

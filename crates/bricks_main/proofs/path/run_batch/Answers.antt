@@ -3,7 +3,7 @@ use Rattle.brick_spec.specs.Item.{items_text}
 use Rattle.brick_spec.specs.Stage.{through}
 use Rattle.bricks_main.specs.Path.{row_stages, fixed_class, HaveRoom, items_in, item_in_passed, reasons_in, AreShort}
 use Rattle.bricks_main.proofs.BatchRuns.{batch_made, room_join, dropped_buffer, counts_alike}
-use Rattle.brick_spec.specs.Tenant.{counts_of}
+use Rattle.chain_spec.specs.Tenant.{counts_of}
 use Rattle.batch_ops.specs.Outlet.{buffer_of}
 use Rattle.bricks_main.proofs.RowLengths.{row_short}
 use Rattle.bricks_main.proofs.path.run_batch.Goals as goal

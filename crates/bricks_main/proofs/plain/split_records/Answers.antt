@@ -1,7 +1,7 @@
 use Rattle.std.proofs.Common.{◌<◌, ◌≤◌, length, map, ap, ◌∙◌, subst}
 use Rattle.pcap_io.specs.View.{item_view}
 use Rattle.brick_base.specs.Reason.{reason_view}
-use Rattle.bricks_main.specs.View.{chain_view}
+use Rattle.chain_file.specs.View.{chain_view}
 use Rattle.bricks_main.proofs.SplitRecords.{split_fits, split_big}
 use Rattle.bricks_main.proofs.plain.split_records.Goals as goal
 use Rattle.bricks_main.proofs.plain.split_records.Goals.{then-as_slice-chain+in_ok-push, else-as_slice-chain+in_ok-push-2}

@@ -2,8 +2,8 @@ use Rattle.std.proofs.Common.{◌≡◌, map}
 use Rattle.pcap_io.specs.View.{item_view}
 use Rattle.brick_base.specs.Reason.{reason_view}
 use Rattle.brick_spec.specs.Stage.{Big}
-use Rattle.brick_spec.specs.Tenant.{accepted_items, big_items}
-use Rattle.bricks_main.specs.View.{chain_view}
+use Rattle.chain_spec.specs.Tenant.{accepted_items, big_items}
+use Rattle.chain_file.specs.View.{chain_view}
 use Rattle.bricks_main.specs.Progress.{first}
 use Rattle.bricks_main.proofs.plain.split_records.Given as goal
 

@@ -1,6 +1,6 @@
 use Rattle.std.proofs.Common.{◌≡◌, map, drop}
 use Rattle.std.specs.List.{list_all}
-use Rattle.brick_spec.specs.Report.{is_done}
+use Rattle.chain_spec.specs.Report.{is_done}
 use Rattle.bricks_main.specs.View.{line_view}
 use Rattle.bricks_main.proofs.report.all_done.Given as goal
 

@@ -1,6 +1,6 @@
 use Rattle.std.proofs.Common.{◌≡◌, ◌++◌, ◌∙◌, List, ℕ, decimal, slice_index, append_assoc}
 use Rattle.std.specs.Prelude.{codes}
-use Rattle.brick_spec.specs.Report.{drops_text}
+use Rattle.chain_spec.specs.Report.{drops_text}
 use Rattle.bricks_main.proofs.report.drops_text.Goals as goal
 
 joined : (drops text first second third : List ℕ) → text ≡ first ++ (second ++ third)

@@ -1,5 +1,5 @@
 use Rattle.std.proofs.Common.{◌≡◌, ◌++◌, flat_map, map, drop, string_bytes}
-use Rattle.brick_spec.specs.Report.{output_count_text}
+use Rattle.chain_spec.specs.Report.{output_count_text}
 use Rattle.bricks_main.specs.View.{output_view}
 use Rattle.bricks_main.proofs.report.push_outputs.Given as goal
 

@@ -1,5 +1,5 @@
 use Rattle.std.proofs.Common.{◌≡◌, ◌++◌, flat_map, map, drop, string_bytes}
-use Rattle.brick_spec.specs.Report.{line_text}
+use Rattle.chain_spec.specs.Report.{line_text}
 use Rattle.bricks_main.specs.View.{line_view}
 use Rattle.bricks_main.proofs.report.report_text.Given as goal
 

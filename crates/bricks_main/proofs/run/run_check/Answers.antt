@@ -1,18 +1,18 @@
 use Rattle.std.specs.Prelude.{IsTrue}
-use Rattle.brick_spec.specs.Promise.{seen}
-use Rattle.bricks_main.specs.CheckView.{check_view}
+use Rattle.chain_spec.specs.Promise.{seen}
+use Rattle.bricks_main.specs.View.{outcome_view}
 use Rattle.bricks_main.proofs.Checks.{check_kept}
 use Rattle.bricks_main.proofs.run.run_check.Goals as goal
 
 pub returns : goal.returns
 returns g c = check_kept (IsTrue g.S.Store.tells) (IsTrue g.P.Sink.tells) c.args.chains.now c.args.out_dir.now
     (seen (g.S.Store.file c.args.store.now) (g.S.Store.faults c.args.store.now) (g.P.Sink.written c.args.out.now) (g.P.Sink.faults c.args.out.now))
-    (seen (g.S.Store.file c.check_files-outcome.new.store) (g.S.Store.faults c.check_files-outcome.new.store) (g.P.Sink.written c.tell_check.new.sink) (g.P.Sink.faults c.tell_check.new.sink))
-    (check_view c.check_files-outcome.result) c.tell_check.result (record {
+    (seen (g.S.Store.file c.check_files-outcome.new.store) (g.S.Store.faults c.check_files-outcome.new.store) (g.P.Sink.written c.tell.new.sink) (g.P.Sink.faults c.tell.new.sink))
+    (outcome_view c.check_files-outcome.result) c.tell.result (record {
       is_true = c.check_files-outcome.ensures.is_true;
       files = c.check_files-outcome.ensures.held;
       counts = c.check_files-outcome.ensures.others;
-      told = c.tell_check.ensures.told;
-      sink = c.tell_check.ensures.fault;
-      shown = c.tell_check.ensures.shown;
+      told = c.tell.ensures.told;
+      sink = c.tell.ensures.fault;
+      shown = c.tell.ensures.shown;
     })

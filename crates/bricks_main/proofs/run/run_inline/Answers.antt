@@ -1,5 +1,5 @@
 use Rattle.std.specs.Prelude.{IsTrue}
-use Rattle.brick_spec.specs.Promise.{seen}
+use Rattle.chain_spec.specs.Promise.{seen}
 use Rattle.bricks_main.specs.View.{outcome_view}
 use Rattle.bricks_main.proofs.Promises.{promises_kept}
 use Rattle.bricks_main.proofs.run.run_inline.Goals as goal

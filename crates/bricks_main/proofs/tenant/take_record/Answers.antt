@@ -1,7 +1,7 @@
 use Rattle.std.proofs.Common.{subst, arith}
 use Rattle.std.proofs.lemmas.List.{length-map}
 use Rattle.pcap_io.specs.View.{entry_view}
-use Rattle.bricks_main.specs.View.{chain_view}
+use Rattle.chain_file.specs.View.{chain_view}
 use Rattle.bricks_main.specs.Path.{items_in, item_in_work}
 use Rattle.bricks_main.specs.PathView.{HasRoomFor}
 use Rattle.bricks_main.specs.Progress.{first}

@@ -2,9 +2,8 @@ use Rattle.std.proofs.Common.{List, [], ap, ◌∙◌, map, subst, arith}
 use Rattle.std.proofs.lemmas.List.{length-map}
 use Rattle.brick_spec.specs.Item.{items_text}
 use Rattle.brick_spec.specs.Capture.{Contents}
-use Rattle.brick_spec.specs.Stage.{stage_of}
-use Rattle.bricks_main.specs.declared.chain.Stage.{Stage}
-use Rattle.bricks_main.specs.View.{chain_view, stage_view}
+use Rattle.chain_spec.specs.Tenant.{item_stages}
+use Rattle.chain_file.specs.View.{chain_view}
 use Rattle.bricks_main.specs.Path.{row_stages, items_in, item_in_work}
 use Rattle.bricks_main.specs.PathView.{HasRoomFor, Carries, WaitsIn}
 use Rattle.bricks_main.specs.ProgressView.{progress_view}
@@ -13,7 +12,7 @@ use Rattle.bricks_main.proofs.tenant.take_records.Goals as goal
 
 pub loop-k-init : goal.loop-k-init
 loop-k-init c = record {
-  carries = subst (λ (ss : List Stage). Carries (map stage_of (map stage_view ss)) c.args.chain.now.bytes c.in_ok-path.path) c.deref.ensures.value (c.in_ok-path.ensures.carries c.args.chain.now.bytes);
+  carries = c.in_ok-path.ensures.carries c.args.chain.now.bytes;
   waits = nothing_waits (chain_view c.args.chain.now) c.args.capture.now c.in_ok-new.field-0 (items_in c.in_ok-path.path.batch) (c.in_ok-new.ensures ∙ ap (λ n. items_text n []) c.nano.ensures) (ap items_in c.in_ok-path.ensures.empty);
 }
 

@@ -12,7 +12,7 @@ returns-in-Err-clause-files g t c = λ tells.
     rw is (writes_stopped _ _ (text_view c.in-Some.first.now) (map text_view c.in-Some.rest.now) (g.S.Store.file c.args.store.now) (g.S.Store.file c.write_whole.new.store)
     false≢true
     (λ failed. rw (← c.as_str.ensures.value) (c.write_whole.ensures.cause.cause (search rules))) distinct
-    (rw (← c.as_str.ensures.value, ← c.deref.ensures.value) (c.write_whole.ensures.at_most tells)) (rw (← c.as_str.ensures.value) (c.write_whole.ensures.others tells)))
+    (rw (← c.as_str.ensures.value) (c.write_whole.ensures.at_most tells)) (rw (← c.as_str.ensures.value) (c.write_whole.ensures.others tells)))
 
 pub returns-in-Ok-clause-files : goal.returns-in-Ok-clause-files
 returns-in-Ok-clause-files g t c = λ tells.
@@ -20,7 +20,7 @@ returns-in-Ok-clause-files g t c = λ tells.
     let distinct = subst (λ (ts : List _). AreDistinct (map text_view ts)) is c.requires.distinct in
     rw is (writes_then _ _ _ (λ u rose failed. omega (arith, rose failed, c.in-Ok.ensures.cause.later c.args.account u.name)) (text_view c.in-Some.first.now) (map text_view c.in-Some.rest.now) (g.S.Store.file c.args.store.now) (g.S.Store.file c.write_whole.new.store) (g.S.Store.file c.write_texts.new.store)
     distinct
-    (rw (← c.as_str.ensures.value, ← c.deref.ensures.value) (c.in-Ok.ensures.ok tells)) (rw (← c.as_str.ensures.value) (c.in-Ok.ensures.others tells)) (c.write_texts.ensures.files tells))
+    (rw (← c.as_str.ensures.value) (c.in-Ok.ensures.ok tells)) (rw (← c.as_str.ensures.value) (c.in-Ok.ensures.others tells)) (c.write_texts.ensures.files tells))
 
 pub returns-in-Ok-clause-cause : goal.returns-in-Ok-clause-cause
 returns-in-Ok-clause-cause g t c = λ failed.

@@ -1,6 +1,5 @@
 use Rattle.std.proofs.Common.{◌≡◌, [], ◌∷◌, ◌++◌, drop, map}
-use Rattle.brick_spec.specs.Chain.{output_file, refused_file}
-use Rattle.chain_spec.specs.ChainSet.{file_names}
+use Rattle.chain_spec.specs.ChainSet.{output_file, refused_file, file_names}
 use Rattle.chain_spec.specs.ChainWalk.{first_taken}
 use Rattle.chain_file.specs.View.{chain_view, chain_captures}
 use Rattle.chain_file.proofs.collisions.taken_of.Given as goal
