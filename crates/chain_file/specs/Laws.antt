@@ -1,7 +1,8 @@
 -- Some chain files and what they give, and the lines of faults.
-use Rattle.std.specs.Prelude.{◌≡◌, ◌<◌, ℕ, List, [], ◌∷◌, ◌++◌, length, Some, None, Result, Ok, Err, codes}
+use Rattle.std.specs.Prelude.{◌≡◌, ◌<◌, ℕ, true, List, [], ◌∷◌, ◌++◌, length, Some, None, Result, Ok, Err, is_ok, codes}
+use Rattle.std.specs.List.{repeat}
 use Rattle.chain_spec.specs.ChainFault.{ChainFault, NotToml, Missing, Unknown, Range, Name, TooManyTenants, Collides, TooLong, fault_text}
-use Rattle.chain_spec.specs.ChainSet.{Chain, DryDrop, UnparsedPass, Ttl, SetTos, Only}
+use Rattle.chain_spec.specs.ChainSet.{Chain, DryWait, UnparsedPass, UnparsedDrop, Ttl, SetTos, Only}
 use Rattle.chain_spec.specs.ChainWalk.{longest_chain_file, read_chains}
 
 -- what a chain file `c.toml` gives for the folder `out`
@@ -20,18 +21,48 @@ named value = codes "version = 1\n[[tenant]]\nname = " ++ value
 abbrev matched : List ℕ → List ℕ
 matched prefix = with_line (codes "stages = [{ stage = \"only\", match = { src = \"" ++ (prefix ++ codes "\" } }]"))
 
+-- a tenant with a list of stages
+abbrev staged : List ℕ → List ℕ
+staged stages = with_line (codes "stages = [" ++ (stages ++ codes "]"))
+
+-- a tenant of these texts
+abbrev tenant_of : List ℕ → List ℕ → List ℕ → List ℕ
+tenant_of name capture group =
+    codes "version = 1\n[[tenant]]\nname = \"" ++ (name ++ (codes "\"\ncapture = \"" ++ (capture ++ (codes "\"\n[[tenant.group]]\nname = \"" ++ (group ++ codes "\"\n")))))
+
+-- the letter `a`, so many times
+abbrev letters : ℕ → List ℕ
+letters n = repeat n (codes "a")
+
+-- a file that is accepted
+abbrev Accepted : List ℕ → Type 0
+Accepted bytes = is_ok (read bytes) ≡ true
+
+-- a whole file, and the first faults of others
 pub record Samples : Type 0 where
-  pub accepted : read (with_line (codes "bytes = 64\ndry = \"drop\"\nstages = [{ stage = \"ttl\" }, { stage = \"set_tos\", value = 8 }, { stage = \"only\", match = { src = \"10.0.0.0/8\", dport = 53 } }]"))
+  pub accepted : read (codes "version = 1\n\n[[tenant]]\nname = \"acme\"\ncapture = \"captures/acme.pcap\"\nbuffers = 64\nbytes = 1514\ndry = \"wait\"\nunparsed = \"drop\"\nstages = [\n    { stage = \"ttl\" },\n    { stage = \"set_tos\", value = 8 },\n    { stage = \"only\", match = { proto = \"udp\", dst = \"10.0.0.0/8\", dport = 53 } },\n]\n\n[[tenant.group]]\nname = \"dns\"\n")
+      ≡ Ok (record {
+        name = codes "acme";
+        capture = codes "captures/acme.pcap";
+        buffers = 64;
+        bytes = 1514;
+        dry = DryWait;
+        unparsed = UnparsedDrop;
+        stages = Ttl ∷ SetTos 8 ∷ Only (record { proto = Some 17; src = None; dst = Some (record { addr = 167772160; bits = 8 }); sport = None; dport = Some 53; port = None }) ∷ [];
+        groups = record { name = codes "dns"; wanted = None; stages = []; output = 0 } ∷ [];
+        outputs = codes "dns" ∷ [];
+      } ∷ [])
+  pub defaults : read (codes "version = 1\n[[tenant]]\nname = \"a\"\ncapture = \"in.pcap\"\ngroup = [{ name = \"all\" }]\n")
       ≡ Ok (record {
         name = codes "a";
         capture = codes "in.pcap";
         buffers = 256;
-        bytes = 64;
-        dry = DryDrop;
+        bytes = 65600;
+        dry = DryWait;
         unparsed = UnparsedPass;
-        stages = Ttl ∷ SetTos 8 ∷ Only (record { proto = None; src = Some (record { addr = 167772160; bits = 8 }); dst = None; sport = None; dport = Some 53; port = None }) ∷ [];
-        groups = record { name = codes "web"; wanted = None; stages = []; output = 0 } ∷ [];
-        outputs = codes "web" ∷ [];
+        stages = [];
+        groups = record { name = codes "all"; wanted = None; stages = []; output = 0 } ∷ [];
+        outputs = codes "all" ∷ [];
       } ∷ [])
   pub empty : read [] ≡ Err (Missing 0 (codes "version"))
   pub version : read (codes "version = 3\n") ≡ Err (Range 0 (codes "version"))
@@ -39,6 +70,8 @@ pub record Samples : Type 0 where
   pub least_key : read (with_line (codes "zebra = 1\nmule = 1")) ≡ Err (Unknown 1 (codes "mule"))
   pub cut_off : read (codes "a = ") ≡ Err NotToml
   pub no_text : read (255 ∷ []) ≡ Err NotToml
+  pub cut_character : read (with_line (codes "# " ++ 195 ∷ [])) ≡ Err NotToml
+  pub key_twice : read (codes "version = 1\nversion = 1\n") ≡ Err NotToml
   pub bytes : read (with_line (codes "bytes = 63")) ≡ Err (Range 1 (codes "bytes"))
   pub collides : read (codes "version = 1\n[[tenant]]\nname = \"a\"\ncapture = \"out/a.web.pcap\"\n[[tenant.group]]\nname = \"web\"\n") ≡ Err (Collides (codes "out/a.web.pcap"))
   pub date : read (named (codes "2020-02-03\n")) ≡ Err (Range 1 (codes "name"))
@@ -55,7 +88,63 @@ pub record Samples : Type 0 where
   pub two_tenants : read (codes "version = 1\ntenant = [{}, {}]\n") ≡ Err (TooManyTenants 2)
   pub no_tenant : read (codes "version = 1\ntenant = []\n") ≡ Err (Range 0 (codes "tenant"))
   pub no_table : read (codes "version = 1\ntenant = [1]\n") ≡ Err (Range 0 (codes "tenant"))
+  pub no_group : read (codes "version = 1\n[[tenant]]\nname = \"a\"\ncapture = \"in.pcap\"\n") ≡ Err (Missing 1 (codes "group"))
   pub two_groups : read (with_line (codes "[[tenant.group]]\nname = \"dns\"")) ≡ Err (Range 1 (codes "group"))
+  pub group_match : read (with_line [] ++ codes "match = {}\n") ≡ Err (Unknown 1 (codes "match"))
+  pub group_stages : read (with_line [] ++ codes "stages = []\n") ≡ Err (Unknown 1 (codes "stages"))
+  pub group_into : read (with_line [] ++ codes "into = \"web\"\n") ≡ Err (Unknown 1 (codes "into"))
+  pub translation : read (with_line (codes "nat = {}")) ≡ Err (Unknown 1 (codes "nat"))
+
+-- the ends of ranges
+pub record Ends : Type 0 where
+  pub name_of_32 : Accepted (tenant_of (letters 32) (codes "in.pcap") (letters 32))
+  pub group_of_33 : read (tenant_of (codes "a") (codes "in.pcap") (letters 33)) ≡ Err (Name 1)
+  pub group_of_0 : read (tenant_of (codes "a") (codes "in.pcap") []) ≡ Err (Name 1)
+  pub capital : read (tenant_of (codes "A") (codes "in.pcap") (codes "web")) ≡ Err (Name 1)
+  pub capture_of_255 : Accepted (tenant_of (codes "a") (letters 255) (codes "web"))
+  pub capture_of_256 : read (tenant_of (codes "a") (letters 256) (codes "web")) ≡ Err (Range 1 (codes "capture"))
+  pub capture_of_0 : read (tenant_of (codes "a") [] (codes "web")) ≡ Err (Range 1 (codes "capture"))
+  pub buffers_0 : read (with_line (codes "buffers = 0")) ≡ Err (Range 1 (codes "buffers"))
+  pub buffers_1 : Accepted (with_line (codes "buffers = 1"))
+  pub buffers_1024 : Accepted (with_line (codes "buffers = 1024"))
+  pub buffers_1025 : read (with_line (codes "buffers = 1025")) ≡ Err (Range 1 (codes "buffers"))
+  pub bytes_64 : Accepted (with_line (codes "bytes = 64"))
+  pub bytes_65600 : Accepted (with_line (codes "bytes = 65600"))
+  pub bytes_65601 : read (with_line (codes "bytes = 65601")) ≡ Err (Range 1 (codes "bytes"))
+  pub below_0 : read (with_line (codes "bytes = -64")) ≡ Err (Range 1 (codes "bytes"))
+  pub dry : read (with_line (codes "dry = \"Wait\"")) ≡ Err (Range 1 (codes "dry"))
+  pub unparsed : read (with_line (codes "unparsed = true")) ≡ Err (Range 1 (codes "unparsed"))
+  pub stages_32 : Accepted (staged (repeat 32 (codes "{ stage = \"ttl\" },")))
+  pub stages_33 : read (staged (repeat 33 (codes "{ stage = \"ttl\" },"))) ≡ Err (Range 1 (codes "stages"))
+  pub tos_255 : Accepted (staged (codes "{ stage = \"set_tos\", value = 255 }"))
+  pub tos_256 : read (staged (codes "{ stage = \"set_tos\", value = 256 }")) ≡ Err (Range 1 (codes "value"))
+  pub port_65535 : Accepted (staged (codes "{ stage = \"only\", match = { sport = 0, port = 65535 } }"))
+  pub port_65536 : read (staged (codes "{ stage = \"only\", match = { port = 65536 } }")) ≡ Err (Range 1 (codes "port"))
+  pub protocol : read (staged (codes "{ stage = \"only\", match = { proto = \"sctp\" } }")) ≡ Err (Range 1 (codes "proto"))
+  pub no_bits : Accepted (matched (codes "0.0.0.0/0"))
+  pub all_bits : Accepted (matched (codes "255.255.255.255/32"))
+  pub three_parts : read (matched (codes "10.0.0/8")) ≡ Err (Range 1 (codes "src"))
+  pub no_prefix : read (matched (codes "10.0.0.1")) ≡ Err (Range 1 (codes "src"))
+
+-- which fault comes first
+pub record Order : Type 0 where
+  pub key_before_missing : read (codes "zebra = 1\n") ≡ Err (Unknown 0 (codes "zebra"))
+  pub first_missing : read (codes "version = 1\n[[tenant]]\n") ≡ Err (Missing 1 (codes "name"))
+  pub value_before_next_key : read (named (codes "1\n")) ≡ Err (Range 1 (codes "name"))
+  pub top_key_before_tenants : read (codes "version = 1\nzebra = 1\ntenant = [{}, {}]\n") ≡ Err (Unknown 0 (codes "zebra"))
+  pub count_before_members : read (codes "version = 1\ntenant = [1, 1]\n") ≡ Err (TooManyTenants 2)
+  pub member_by_member : read (staged (codes "{ stage = \"ttl\", mule = 1 }, 1")) ≡ Err (Unknown 1 (codes "mule"))
+  pub member : read (staged (codes "1")) ≡ Err (Range 1 (codes "stages"))
+  pub stage_before_keys : read (staged (codes "{ value = 8 }")) ≡ Err (Missing 1 (codes "stage"))
+  pub stage_kind : read (staged (codes "{ stage = 1, value = 8 }")) ≡ Err (Range 1 (codes "stage"))
+  pub stage_keys : read (staged (codes "{ stage = \"ttl\", value = 8 }")) ≡ Err (Unknown 1 (codes "value"))
+  pub stage_value : read (staged (codes "{ stage = \"set_tos\" }")) ≡ Err (Missing 1 (codes "value"))
+  pub stage_match : read (staged (codes "{ stage = \"only\" }")) ≡ Err (Missing 1 (codes "match"))
+  pub match_keys : read (staged (codes "{ stage = \"only\", match = { zebra = 1, mule = 1 } }")) ≡ Err (Unknown 1 (codes "mule"))
+  pub stages_before_groups : read (codes "version = 1\n[[tenant]]\nname = \"a\"\ncapture = \"in.pcap\"\ngroup = []\nstages = 1\n") ≡ Err (Range 1 (codes "stages"))
+  pub own : read_chains (codes "out/a.web.pcap") (codes "out") (tenant_of (codes "a") (codes "out/a.refused") (codes "web")) ≡ Err (Collides (codes "out/a.web.pcap"))
+  pub refused : read (tenant_of (codes "a") (codes "out/a.refused") (codes "web")) ≡ Err (Collides (codes "out/a.refused"))
+  pub spelled : Accepted (tenant_of (codes "a") (codes "./out/a.web.pcap") (codes "web"))
 
 -- a file of more bytes than are read is TooLong, whatever they are
 abbrev pub LongRefused : Type 0
@@ -63,5 +152,10 @@ LongRefused = (own out bytes : List ℕ) → longest_chain_file < length bytes �
 
 pub record Texts : Type 0 where
   pub not_toml : fault_text NotToml ≡ codes "chains: 1 NotToml\n"
+  pub missing : fault_text (Missing 0 (codes "version")) ≡ codes "chains: 2 Missing place=0 key=version\n"
+  pub unknown : fault_text (Unknown 1 (codes "zebra")) ≡ codes "chains: 3 Unknown place=1 key=zebra\n"
+  pub range : fault_text (Range 1 (codes "bytes")) ≡ codes "chains: 4 Range place=1 key=bytes\n"
+  pub name : fault_text (Name 16) ≡ codes "chains: 5 Name place=16\n"
+  pub too_many_tenants : fault_text (TooManyTenants 17) ≡ codes "chains: 8 TooManyTenants count=17\n"
   pub collides : fault_text (Collides (codes "out/a.web.pcap")) ≡ codes "chains: 9 Collides out/a.web.pcap\n"
   pub too_long : fault_text TooLong ≡ codes "chains: 10 TooLong\n"

@@ -28,7 +28,7 @@ pub enum Unparsed {
 }
 
 /// A group of a tenant: what it takes, and where it leads.
-#[derive(Drop)]
+#[derive(Debug, Drop)]
 pub struct Group {
     pub name: Name,
     /// None takes every frame.
@@ -42,7 +42,7 @@ pub struct Group {
 }
 
 /// What an accepted chain file says of a tenant.
-#[derive(Drop)]
+#[derive(Debug, Drop)]
 pub struct Chain {
     pub name: Name,
     /// The name of its capture in the store, 1 to 255 bytes.

@@ -20,6 +20,6 @@ mod words;
 pub use chain::{Chain, Dry, Group, Unparsed};
 pub use chain_text::{ChainFault, fault_text};
 pub use files::{output_file, refused_file};
-pub use laws::{long_refused, samples, texts};
+pub use laws::{ends, long_refused, order, samples, texts};
 pub use set::ChainSet;
 pub use stages::Stage;

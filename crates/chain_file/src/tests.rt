@@ -1,4 +1,5 @@
 use crate::{ChainSet, Dry, Stage, Unparsed, fault_text};
+use std::alloc::{Alloc, AllocError, Global};
 use std::test::Fail;
 
 const CHAINS: &str =
@@ -6,26 +7,25 @@ const CHAINS: &str =
 
 #[test]
 fn a_chain_is_read(rt: HostRuntime) -> Result<(), Fail> {
-    match ChainSet::read(rt.alloc(), CHAINS.as_bytes(), "c.toml", "out") {
-        Ok(set) => {
-            let chain = set.chain(0);
-            assert_eq!(rt;
-                (chain.name.as_str(), chain.capture.as_str()),
-                ("a", "in.pcap")
-            );
-            assert_eq!(rt; (chain.buffers, chain.bytes), (256, 65_600));
-            assert_eq!(rt; (chain.dry, chain.unparsed), (Dry::Wait, Unparsed::Drop));
-            assert!(rt; chain.stages.len() == 1 && chain.stages[0] == Stage::Ttl);
-            assert!(rt; chain.outputs.len() == 1 && chain.outputs[0].as_str() == "web");
-        }
-        Err(_) => assert!(rt; false, "the file is accepted"),
-    }
+    let set = ChainSet::read(rt.alloc(), CHAINS.as_bytes(), "c.toml", "out")?;
+    assert_eq!(rt; set.tenants(), 1);
+    let chain = set.chain(0);
+    assert_eq!(rt;
+        (chain.name.as_str(), chain.capture.as_str()),
+        ("a", "in.pcap")
+    );
+    assert_eq!(rt; (chain.buffers, chain.bytes), (256, 65_600));
+    assert_eq!(rt; (chain.dry, chain.unparsed), (Dry::Wait, Unparsed::Drop));
+    assert!(rt; chain.stages.len() == 1 && chain.stages[0] == Stage::Ttl);
+    assert!(rt; chain.outputs.len() == 1 && chain.outputs[0].as_str() == "web");
+    assert_eq!(rt; set.into_chains().len(), 1);
     Ok(())
 }
 
 #[test]
 fn faults_are_told(rt: HostRuntime) -> Result<(), Fail> {
     for (text, want) in [
+        ("a = ", "chains: 1 NotToml\n"),
         ("", "chains: 2 Missing place=0 key=version\n"),
         ("version = 3\n", "chains: 4 Range place=0 key=version\n"),
         (
@@ -40,30 +40,45 @@ fn faults_are_told(rt: HostRuntime) -> Result<(), Fail> {
             "version = 1\ntenant = [{}, {}]\n",
             "chains: 8 TooManyTenants count=2\n",
         ),
+        (
+            "version = 1\n[[tenant]]\nname = \"a\"\ncapture = \"out/a.refused\"\n[[tenant.group]]\nname = \"web\"\n",
+            "chains: 9 Collides out/a.refused\n",
+        ),
     ] {
-        match ChainSet::read(rt.alloc(), text.as_bytes(), "c.toml", "out") {
-            Ok(_) => assert!(rt; false, "this file is refused"),
-            Err(fault) => {
-                let line = fault_text(rt.alloc(), &fault)?;
-                assert_eq!(rt; line.as_str(), want);
-            }
-        }
+        let Err(fault) = ChainSet::read(rt.alloc(), text.as_bytes(), "c.toml", "out") else {
+            assert!(rt; false, "this file is refused");
+            return Ok(());
+        };
+        let line = fault_text(rt.alloc(), &fault)?;
+        assert_eq!(rt; line.as_str(), want);
     }
     Ok(())
 }
 
-#[test]
-fn a_long_file_is_refused(rt: HostRuntime) -> Result<(), Fail> {
+/// The chain file, filled up with line feeds.
+fn filled(rt: &impl Alloc<A = Global>, len: usize) -> Result<Vec<u8>, AllocError> {
     let mut bytes: Vec<u8> = Vec::new(rt.alloc());
-    for _ in 0..1_048_577 {
-        bytes.push(b'\n')?;
-    }
-    match ChainSet::read(rt.alloc(), &bytes, "c.toml", "out") {
-        Ok(_) => assert!(rt; false, "this file is refused"),
-        Err(fault) => {
-            let line = fault_text(rt.alloc(), &fault)?;
-            assert_eq!(rt; line.as_str(), "chains: 10 TooLong\n");
-        }
-    }
+    bytes.extend_from_slice(CHAINS.as_bytes())?;
+    bytes.resize(len, b'\n')?;
+    Ok(bytes)
+}
+
+#[test]
+fn the_longest_file_is_read(rt: HostRuntime) -> Result<(), Fail> {
+    let bytes = filled(&rt, 1_048_576)?;
+    let set = ChainSet::read(rt.alloc(), &bytes, "c.toml", "out")?;
+    assert_eq!(rt; set.chain(0).name.as_str(), "a");
+    Ok(())
+}
+
+#[test]
+fn a_longer_file_is_refused(rt: HostRuntime) -> Result<(), Fail> {
+    let bytes = filled(&rt, 1_048_577)?;
+    let Err(fault) = ChainSet::read(rt.alloc(), &bytes, "c.toml", "out") else {
+        assert!(rt; false, "this file is refused");
+        return Ok(());
+    };
+    let line = fault_text(rt.alloc(), &fault)?;
+    assert_eq!(rt; line.as_str(), "chains: 10 TooLong\n");
     Ok(())
 }

@@ -1,5 +1,5 @@
--- The tree of bytes that are a text, or are none, and of those that are too many; and steps that fail.
-use Rattle.std.proofs.Common.{◌≡◌, ◌≤◌, ℕ, Bool, true, false, cond, List, length, Option, Some, None, Result, Err, refl, le-leb, nat_le, ap, sym, ◌∙◌}
+-- The tree of bytes that are a text, or are none, and of those that are too many; and what holds of an option's value.
+use Rattle.std.proofs.Common.{◌≡◌, ◌≤◌, ℕ, Bool, true, false, cond, List, length, Option, Some, None, Err, refl, le-leb, nat_le, ap, ◌∙◌}
 use Rattle.std.specs.Prelude.{IfSome}
 use Rattle.std.specs.Str.{IsUtf8, is_utf8}
 use Rattle.std.proofs.lemmas.Str.{IsUtf8-from_is_utf8, is_utf8-from_IsUtf8}
@@ -7,8 +7,6 @@ use Rattle.toml.specs.Data.{Members}
 use Rattle.toml.specs.Parse.{parse_document}
 use Rattle.chain_spec.specs.ChainFault as spec
 use Rattle.chain_spec.specs.ChainWalk.{document, tree}
-use Rattle.chain_text.specs.declared.fault.ChainFault.{ChainFault}
-use Rattle.chain_text.specs.Gives.{Is, Fails, seen}
 
 taken : {X : Type 0} (b : Bool) (x y : X) → b ≡ true → cond b x y ≡ x
 taken b x y e = rw e refl
@@ -33,7 +31,3 @@ tree_is bytes m short e = taken (nat_le (length bytes) 1048576) (spec.or_fault s
 pub IfSome-weaker : {X : Type 0} (o : Option X) (P Q : X → Type 0) → ((x : X) → P x → Q x) → IfSome o P → IfSome o Q
 IfSome-weaker None P Q f h = tt
 IfSome-weaker (Some x) P Q f h = f x h
-
--- a step that fails by a fault that was made
-pub fails_as : {Y : Type 0} (e : ChainFault) (f : spec.ChainFault) (read : Result Y spec.ChainFault) → Is f e → read ≡ Err f → Fails e read
-fails_as e f read is fails = IfSome-weaker (seen e) (λ g. g ≡ f) (λ g. read ≡ Err g) (λ g same. fails ∙ ap Err (sym same)) is

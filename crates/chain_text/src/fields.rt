@@ -1,6 +1,6 @@
 //! The fields of a table.
 
-ghost use Rattle.std.specs.Prelude.{◌≡◌, ◌≤◌, IfOk, IfSome, map, option_map, vec_len};
+ghost use Rattle.std.specs.Prelude.{◌≡◌, ◌≤◌, None, Some, IfOk, IfSome, map, option_map, vec_len, if◌then◌else◌};
 ghost use Rattle.toml.specs.Data.{get_member};
 ghost use Rattle.toml.specs.View.{view, table_view, array_view};
 ghost use Rattle.chain_spec.specs.ChainSet.{is_among};
@@ -26,17 +26,33 @@ fn is_among(key: &str, row: &[&str]) -> bool
     false
 }
 
+/// The key, where the row does not have it.
+fn other_than<'a>(row: &[&str], key: &'a str) -> Option<&'a str>
+    ensures { option_map (λ k. k.now) result ≡ (if is_among key.now (map (λ r. r.now) row.now) then None else Some key.now) }
+{
+    if is_among(key, row) { None } else { Some(key) }
+}
+
+/// The least key by bytes that the row does not have. The keys of a table ascend, so it is the first.
+fn stranger<'a>(row: &[&str], table: &'a Table) -> Option<&'a str>
+    ensures { option_map (λ k. k.now) result ≡ spec.stranger (map (λ r. r.now) row.now) (table_view table.now) }
+{
+    let mut least = None;
+    'members: for (key, _value) in table.iter() {
+        least = least.or(other_than(row, key.as_str()));
+    }
+    least
+}
+
 /// No key but the row's: else Unknown, with the least other key by bytes.
 #[tactic(auto, unfolding(chain_spec::specs::ChainWalk::known))]
 pub fn known(alloc: Global, place: u32, row: &[&str], table: &Table) -> Result<(), ChainFault>
     ensures { Gives (λ _. tt) result (spec.known place (map (λ r. r.now) row.now) (table_view table.now)) }
 {
-    'members: for (key, _value) in table.iter() {
-        if !is_among(key.as_str(), row) {
-            return Err(unknown(alloc, place, key.as_str()));
-        }
+    match stranger(row, table) {
+        Some(key) => Err(unknown(alloc, place, key)),
+        None => Ok(()),
     }
-    Ok(())
 }
 
 /// The value of a key.

@@ -1,17 +1,14 @@
 -- The row that a scan finds is the chosen one, and right rows have only one.
-use Rattle.std.proofs.Common.{◌≡◌, ◌∙◌, ℕ, ◌-◌, ◌*◌, ◌/◌, ◌%◌, ◌^◌, ◌<◌, ◌≤◌, Bool, true, false, ◌&&◌, not, cond, eqb, ltb, nat_lt, refl, sym, ap, arith, inl, inr, List, Option, Some, None, length, map, take, get_or}
-use Rattle.std.specs.List.{slice_get, position, list_any}
-use Rattle.std.proofs.lemmas.Nat.{div-add-mod'}
-use Rattle.std.proofs.lemmas.Bool.{cases_lt}
+use Rattle.std.proofs.Common.{◌≡◌, ◌∙◌, ℕ, ◌<◌, ◌≤◌, Bool, true, false, ◌&&◌, not, nat_lt, refl, sym, ap, arith, List, Option, Some, None, length, map}
+use Rattle.std.specs.List.{slice_get, list_any}
 use Rattle.std.proofs.lemmas.Bool.Decides.{nat_tests}
-use Rattle.std.proofs.lemmas.List.{get_or-take, length-take-le}
 use Rattle.std.proofs.lemmas.List.Folds.{list_any_at}
 use Rattle.std.proofs.lemmas.Option.{slice_get_within, get_or_from_slice_get}
 use Rattle.brick_spec.specs.Route as spec
 use Rattle.lpm_fw.specs.declared.routes.Route.{Route}
 use Rattle.lpm_fw.specs.RouteView.{route_view}
 use Rattle.lpm_fw.specs.Scan.{Best, IsBest}
-use Rattle.brick_spec.proofs.Positions.{position-map, mapped_get, get_mapped, position_at, position_none, any_none}
+use Rattle.brick_spec.proofs.Positions.{mapped_get, get_mapped, position_at, position_none, any_none}
 
 -- a row that leads to the address and is longer than another
 abbrev is_longer : ℕ → ℕ → spec.Route → Bool

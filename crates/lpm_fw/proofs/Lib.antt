@@ -1,3 +1,4 @@
 mod Faults
 mod Choice
 mod Unique
+mod Opened

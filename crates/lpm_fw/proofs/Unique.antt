@@ -1,6 +1,6 @@
 -- Right rows have one longest prefix for an address.
-use Rattle.std.proofs.Common.{◌≡◌, ◌∙◌, ℕ, ◌-◌, ◌*◌, ◌/◌, ◌%◌, ◌^◌, ◌<◌, ◌≤◌, Bool, true, false, ◌&&◌, not, cond, eqb, ltb, nat_eq, nat_lt, refl, sym, ap, arith, inl, inr, List, Option, Some, None, length, take, get_or}
-use Rattle.std.specs.List.{slice_get, position, position_or_len, list_any}
+use Rattle.std.proofs.Common.{◌≡◌, ◌∙◌, ℕ, ◌-◌, ◌*◌, ◌/◌, ◌%◌, ◌^◌, ◌<◌, ◌≤◌, Bool, true, false, ◌&&◌, not, cond, ltb, nat_eq, nat_lt, refl, sym, ap, arith, inl, inr, List, Option, Some, None, length, take, get_or}
+use Rattle.std.specs.List.{slice_get, position, position_or_len}
 use Rattle.std.proofs.lemmas.Nat.{div-add-mod'}
 use Rattle.std.proofs.lemmas.Bool.{cases_lt}
 use Rattle.std.proofs.lemmas.Bool.Decides.{nat_tests}

@@ -2,4 +2,5 @@ pub mod RouteView
 pub mod Scan
 pub mod RuleView
 pub mod Allowed
+pub mod Inspection
 pub mod Laws

@@ -2,6 +2,7 @@
 #![tactic(auto)]
 
 mod established;
+mod inspection;
 mod laws;
 mod routes;
 mod rules;
@@ -9,6 +10,7 @@ mod rules;
 mod tests;
 
 pub use established::Established;
+pub use inspection::inspect;
 pub use laws::one_longest_prefix;
 pub use routes::{Route, RouteFault, Routes};
 pub use rules::{Rule, Rules, Verdict};

@@ -1,7 +1,8 @@
 ghost use Rattle.std.specs.Prelude.{◌≡◌, IsTrue};
 ghost use Rattle.lpm_fw.specs.Scan.{AreShort};
 
-use crate::{Established, Route, RouteFault, Routes, Rule, Rules, Verdict};
+use crate::{Established, Route, RouteFault, Routes, Rule, Rules, Verdict, inspect};
+use brick_base::{Class, Dir, Ends};
 use std::alloc::Global;
 use std::process::Abort;
 use std::test::Fail;
@@ -127,8 +128,8 @@ fn datagram(port: u16, back: bool) -> Tuple {
     }
 }
 
-#[test]
-fn the_first_rule_that_is_met_decides(rt: HostRuntime) -> Result<(), Fail> {
+/// Allows what goes to port 53, and denies other UDP.
+fn names_alone(alloc: Global, default: Verdict) -> Result<Rules, Fail> {
     let any = Match {
         proto: None,
         src: None,
@@ -145,7 +146,7 @@ fn the_first_rule_that_is_met_decides(rt: HostRuntime) -> Result<(), Fail> {
         proto: Some(17),
         ..any
     };
-    let mut rows = Vec::new(rt.alloc());
+    let mut rows = Vec::new(alloc);
     rows.push(Rule {
         verdict: Verdict::Allow,
         wanted: Some(to_names),
@@ -154,7 +155,12 @@ fn the_first_rule_that_is_met_decides(rt: HostRuntime) -> Result<(), Fail> {
         verdict: Verdict::Deny,
         wanted: Some(udp),
     })?;
-    let rules = Rules::new(rows, Verdict::Allow);
+    Ok(Rules::new(rows, default))
+}
+
+#[test]
+fn the_first_rule_that_is_met_decides(rt: HostRuntime) -> Result<(), Fail> {
+    let rules = names_alone(rt.alloc(), Verdict::Allow)?;
     assert_eq!(rt; rules.verdict(&datagram(53, false)), Verdict::Allow);
     assert_eq!(rt; rules.verdict(&datagram(53, true)), Verdict::Deny);
     assert_eq!(rt; rules.verdict(&datagram(99, false)), Verdict::Deny);
@@ -164,6 +170,74 @@ fn the_first_rule_that_is_met_decides(rt: HostRuntime) -> Result<(), Fail> {
         ..datagram(99, false)
     };
     assert_eq!(rt; rules.verdict(&tcp), Verdict::Allow);
+    Ok(())
+}
+
+/// A record of a flow without a rank.
+fn class(flow: u32, dir: Dir) -> Class {
+    Class {
+        flow,
+        dir,
+        rank: None,
+        hash: 0,
+        first: Ends {
+            src: 0,
+            sport: 0,
+            dst: 0,
+            dport: 0,
+        },
+        other: false,
+    }
+}
+
+/// What is said of a query, its answer, a datagram to port 99 and its answer, and then of a frame without the IPv4 layer.
+fn inspected(alloc: Global, established: bool) -> Result<[Verdict; 5], Fail> {
+    let rules = names_alone(alloc, Verdict::Deny)?;
+    let mut flows = Established::new(alloc)?;
+    let items = [
+        (class(0, Dir::Forward), Some(datagram(53, false))),
+        (class(0, Dir::Reversed), Some(datagram(53, true))),
+        (class(1, Dir::Forward), Some(datagram(99, false))),
+        (class(1, Dir::Reversed), Some(datagram(99, true))),
+        (class(2, Dir::Forward), None),
+    ];
+    let mut verdicts = [Verdict::Deny; 5];
+    for k in 0..5 {
+        let (class, tuple) = items[k];
+        verdicts[k] = inspect(&rules, established, &mut flows, &class, &tuple)?;
+    }
+    Ok(verdicts)
+}
+
+#[test]
+fn an_answer_is_allowed_where_its_flow_is_established(rt: HostRuntime) -> Result<(), Fail> {
+    let (allow, deny) = (Verdict::Allow, Verdict::Deny);
+    assert_eq!(rt;
+        inspected(rt.alloc(), true)?,
+        [allow, allow, deny, deny, allow]
+    );
+    assert_eq!(rt;
+        inspected(rt.alloc(), false)?,
+        [allow, deny, deny, deny, allow]
+    );
+    Ok(())
+}
+
+#[test]
+fn an_answer_that_the_rules_allow_opens_no_flow(rt: HostRuntime) -> Result<(), Fail> {
+    let rules = names_alone(rt.alloc(), Verdict::Deny)?;
+    let mut flows = Established::new(rt.alloc())?;
+    let reversed = class(0, Dir::Reversed);
+    let to_names = Some(datagram(53, false));
+    let other = Some(datagram(99, true));
+    assert_eq!(rt;
+        inspect(&rules, true, &mut flows, &reversed, &to_names)?,
+        Verdict::Allow
+    );
+    assert_eq!(rt;
+        inspect(&rules, true, &mut flows, &reversed, &other)?,
+        Verdict::Deny
+    );
     Ok(())
 }
 

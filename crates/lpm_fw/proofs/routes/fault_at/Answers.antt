@@ -1,4 +1,4 @@
-use Rattle.std.proofs.Common.{◌≡◌, ◌∙◌, ℕ, ap, sym, Option, Some, None, map, cond}
+use Rattle.std.proofs.Common.{◌∙◌, ap, sym, Some, map, cond}
 use Rattle.std.specs.List.{position}
 use Rattle.brick_spec.specs.Route as spec
 use Rattle.lpm_fw.specs.RouteView.{route_view}

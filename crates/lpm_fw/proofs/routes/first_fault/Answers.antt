@@ -1,4 +1,4 @@
-use Rattle.std.proofs.Common.{◌≡◌, ◌∙◌, sym, arith, get_or, []}
+use Rattle.std.proofs.Common.{◌∙◌, sym, arith, get_or, []}
 use Rattle.std.proofs.lemmas.Option.{slice_get-get_or}
 use Rattle.lpm_fw.specs.declared.routes.Route.{Route}
 use Rattle.lpm_fw.proofs.Faults.{scan_stops, scan_goes_on, all_right}
