@@ -106,6 +106,7 @@ distinct_texts out chain c distinct = by [] chain.outputs distinct
         → AllByRecursion (λ (t : Text). output_file out chain.name n ≢ t.name) (map (output_with_text out chain (output_text chain c)) names ++ refused_text out chain ∷ [])
     others n [] apart = (files_apart out chain.name n, tt)
     others n (m ∷ ms) apart = (λ same. apart.0 (output_name out chain.name n m same), others n ms apart.1)
+
     by : (before names : List (List ℕ)) → are_new before names ≡ true → AreDistinct (map (output_with_text out chain (output_text chain c)) names ++ refused_text out chain ∷ [])
     by before [] new = (tt, tt)
     by before (n ∷ ns) new =

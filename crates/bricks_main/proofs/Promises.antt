@@ -163,6 +163,7 @@ same_chain chains out files a b s t = some_says (files chains) s t
   where
     one : ◌≡◌ {A = Result (List Chain) ChainFault} (Ok (a ∷ [])) (Ok (b ∷ [])) → a ≡ b
     one e = cc
+
     some_says : (o : Option (List ℕ)) → IsSomeAnd o (λ bytes. read_chains chains out bytes ≡ Ok (a ∷ [])) → IsSomeAnd o (λ bytes. read_chains chains out bytes ≡ Ok (b ∷ [])) → a ≡ b
     some_says None h k = absurd h
     some_says (Some bytes) h k = one (sym h ∙ k)
@@ -172,6 +173,7 @@ same_refusal chains out files f g s t = some_refuses (files chains) s t
   where
     one : ◌≡◌ {A = Result (List Chain) ChainFault} (Err f) (Err g) → f ≡ g
     one e = cc
+
     some_refuses : (o : Option (List ℕ)) → IsSomeAnd o (λ bytes. read_chains chains out bytes ≡ Err f) → IsSomeAnd o (λ bytes. read_chains chains out bytes ≡ Err g) → f ≡ g
     some_refuses None h k = absurd h
     some_refuses (Some bytes) h k = one (sym h ∙ k)

@@ -21,11 +21,7 @@ fn operator_of(stage: Stage) -> AnyStage
 }
 
 /// What stands before the stages: where frames of class Other are to be dropped, an operator that drops them.
-fn first_stages(
-    alloc: Global,
-    unparsed: Unparsed,
-    stages: usize,
-) -> Result<Vec<AnyStage>, NoMemory>
+fn first_stages(alloc: Global, unparsed: Unparsed, stages: usize) -> Result<Vec<AnyStage>, NoMemory>
     requires { stages ≤ 32 }
     ensures { IfOk result (λ first. map made_by first.items ≡ before_stages (unparsed_view unparsed)) }
 {

@@ -392,11 +392,7 @@ fn chain_files_that_are_checked(rt: HostRuntime) -> Result<(), Fail> {
             COLLIDING_CHAINS,
             (3, "chains: 9 Collides out/a.g.pcap\n"),
         ),
-        (
-            "c.toml",
-            "",
-            (3, "chains: 2 Missing place=0 key=version\n"),
-        ),
+        ("c.toml", "", (3, "chains: 2 Missing place=0 key=version\n")),
         ("missing.toml", UDP_CHAINS, (4, "store-fault\n")),
     ];
     for (name, chains, ends) in table {
@@ -624,13 +620,32 @@ fn a_frame_that_is_not_ipv4(rt: HostRuntime) -> Result<(), Fail> {
     let alloc = rt.alloc();
     let capture = one_other_frame(alloc)?;
     let none = || Vec::new(alloc);
-    let passed = run(alloc, INLINE.as_slice(), TCP_CHAINS, &capture, none(), none())?;
+    let passed = run(
+        alloc,
+        INLINE.as_slice(),
+        TCP_CHAINS,
+        &capture,
+        none(),
+        none(),
+    )?;
     assert_eq!(rt; passed.status, 0);
     assert!(rt; passed.told == done_line(alloc, 1, 1, 0, 0, 1)?.into_bytes());
     assert!(rt; passed.output == Some(capture.clone()?));
-    let dropped = run(alloc, INLINE.as_slice(), OTHER_CHAINS, &capture, none(), none())?;
+    let dropped = run(
+        alloc,
+        INLINE.as_slice(),
+        OTHER_CHAINS,
+        &capture,
+        none(),
+        none(),
+    )?;
     assert_eq!(rt; dropped.status, 0);
-    assert!(rt; dropped.told == b"a done records=1 accepted=1 refused=0 Big=0 Unparsed=1 Fire=0 NoRoute=0 Ttl=0 NatFull=0 Filter=0 NoGroup=0 Reach=0 /g=0\n".to_vec(alloc)?);
+    assert!(rt;
+        dropped.told
+            == b"a done records=1 accepted=1 refused=0 Big=0 Unparsed=1 Fire=0 NoRoute=0 Ttl=0 NatFull=0 Filter=0 NoGroup=0 Reach=0 /g=0\n".to_vec(
+                alloc
+            )?
+    );
     assert!(rt; dropped.output == Some(HEADER.to_vec(alloc)?));
     Ok(())
 }
