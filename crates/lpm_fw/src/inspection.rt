@@ -61,6 +61,7 @@ pub fn inspect(
         → OnOk result (StandsFor established rules.now flows.new (with_item before class.now.flow x)) }
     ensures err { OnErr result ((other : ℕ) → is_allowed flows.new other ≡ is_allowed flows.old other) }
     ensures off { established ≡ false → IsOk result }
+    ensures unkept { established ≡ false → (other : ℕ) → is_allowed flows.new other ≡ is_allowed flows.old other }
 {
     match class.dir {
         Dir::Forward => inspect_forward(rules, established, flows, class.flow, t),
