@@ -1,9 +1,8 @@
 -- What the parts of a run leave.
-use Rattle.std.proofs.Common.{◌≡◌, ◌≢◌, inl, inr, ℕ, ◌≤◌, ◌<◌, List, [], ◌∷◌, ◌++◌, length, refl, sym, ◌∙◌, ap, subst, arith, append_assoc, length-append, Option, Some, None, IsSomeAnd}
+use Rattle.std.proofs.Common.{◌≡◌, inl, inr, ℕ, ◌≤◌, ◌<◌, List, [], ◌∷◌, length, sym, subst, arith, Option, Some, None, IsSomeAnd}
 use Rattle.std.specs.Prelude.{Err}
 use Rattle.std.specs.List.{AllByRecursion}
 use Rattle.std.proofs.lemmas.List.{append-nil}
-use Rattle.brick_spec.specs.Capture.{Contents}
 use Rattle.chain_spec.specs.ChainFault.{TooLong}
 use Rattle.chain_spec.specs.ChainSet.{Chain, file_names}
 use Rattle.chain_spec.specs.ChainWalk.{read_chains}
@@ -15,7 +14,7 @@ use Rattle.brick_spec.specs.Cause.{Rose, reading_account, writing_account}
 use Rattle.chain_spec.specs.Report.{TenantEnd, Done, BadCapture, ReadFault, WriteFault, Outcome, Usage, ChainsRefused, StoreFault, NoMemory, Checked, Reported}
 use Rattle.chain_spec.specs.Report as report
 use Rattle.chain_spec.specs.Promise.{Held, held, CountRose, Says, Refuses, MayHaveWritten, IsTrueOf}
-use Rattle.brick_spec.specs.Texts.{Text, Holds, MayHold, Untouched, MayWrite, StopsWithin, WritesTexts, AreDistinct}
+use Rattle.brick_spec.specs.Texts.{Text, Holds, MayHold, Untouched, MayWrite, StopsWithin, WritesTexts}
 use Rattle.bricks_main.specs.Run.{ChainMayWrite, TenantLeaves, TenantCause, ChainRan}
 use Rattle.bricks_main.proofs.OutputFiles.{text_others}
 use Rattle.bricks_main.proofs.Tenants.{reported}

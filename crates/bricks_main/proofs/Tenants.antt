@@ -4,7 +4,7 @@ use Rattle.brick_spec.specs.Capture.{Contents, IsReadable}
 use Rattle.brick_spec.specs.CaptureFault.{CaptureFault, Stands}
 use Rattle.brick_spec.specs.Cause.{reading_account, writing_account}
 use Rattle.chain_spec.specs.ChainSet.{Chain, file_names}
-use Rattle.brick_spec.specs.Files.{Files, AllStay}
+use Rattle.brick_spec.specs.Files.{Files}
 use Rattle.chain_spec.specs.Report.{TenantEnd, Done, TooLong, BadCapture, ReadFault, WriteFault, Line}
 use Rattle.chain_spec.specs.Tenant.{Tally, tally_of}
 use Rattle.brick_spec.specs.Texts.{OthersStayOf, SomeRose}

@@ -1,10 +1,9 @@
 -- Accepted chain files: the chains that the bytes of a chain file give, or their first fault. The bytes are read by the crate `toml`
 -- (TOML 1.1) to a tree, which is walked from the top: at a table first its keys, and then the values of its keys in the row's order.
-use Rattle.std.specs.Prelude.{ℕ, suc, ◌+◌, ◌&&◌, Bool, not, ℤ, pos, negsuc, List, [], ◌∷◌, ◌++◌, length, map, Option, Some, None, Result, Ok, Err, if◌then◌else◌, nat_lt, nat_le, nat_eq, codes, min, option_and_then}
+use Rattle.std.specs.Prelude.{ℕ, suc, ◌+◌, ◌&&◌, not, ℤ, pos, negsuc, List, [], ◌∷◌, ◌++◌, length, map, Option, Some, None, Result, Ok, Err, if◌then◌else◌, nat_lt, nat_le, nat_eq, codes, min, option_and_then}
 use Rattle.std.specs.Cmp.Lexicographic.{slice_cmp}
 use Rattle.std.specs.Ordering.{nat_cmp, is_lt}
 use Rattle.std.specs.Str.{bytes_eq, is_utf8}
-use Rattle.std.specs.List.{list_any}
 use Rattle.toml.specs.Data.{Data, Items, no_items, item, Members, no_members, member, get_member, as_str, as_integer, as_array, as_table}
 use Rattle.toml.specs.Parse.{parse_document}
 use Rattle.brick_spec.specs.Name.{is_name}

@@ -1,4 +1,3 @@
-use Rattle.std.specs.Prelude.{IsTrue}
 use Rattle.chain_spec.specs.Promise.{held}
 use Rattle.chain_file.specs.View.{chain_view}
 use Rattle.bricks_main.specs.View.{end_view}

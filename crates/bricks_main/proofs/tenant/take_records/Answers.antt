@@ -1,11 +1,10 @@
-use Rattle.std.proofs.Common.{List, [], ap, ◌∙◌, map, subst, arith}
+use Rattle.std.proofs.Common.{[], ap, ◌∙◌, subst, arith}
 use Rattle.std.proofs.lemmas.List.{length-map}
 use Rattle.brick_spec.specs.Item.{items_text}
 use Rattle.brick_spec.specs.Capture.{Contents}
-use Rattle.chain_spec.specs.Tenant.{item_stages}
 use Rattle.chain_file.specs.View.{chain_view}
 use Rattle.bricks_main.specs.Path.{row_stages, items_in, item_in_work}
-use Rattle.bricks_main.specs.PathView.{HasRoomFor, Carries, WaitsIn}
+use Rattle.bricks_main.specs.PathView.{HasRoomFor, WaitsIn}
 use Rattle.bricks_main.specs.ProgressView.{progress_view}
 use Rattle.bricks_main.proofs.TakeRecord.{few, nothing_waits, ran_waits, all_first, all_made}
 use Rattle.bricks_main.proofs.tenant.take_records.Goals as goal

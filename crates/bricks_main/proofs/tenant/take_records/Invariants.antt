@@ -1,4 +1,3 @@
-use Rattle.std.proofs.Common.{map}
 use Rattle.chain_spec.specs.Tenant.{item_stages}
 use Rattle.chain_file.specs.View.{chain_view}
 use Rattle.bricks_main.specs.Progress.{first}
