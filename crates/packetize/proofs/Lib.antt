@@ -3,3 +3,4 @@ mod Emitted
 mod BareFrames
 mod WholeFrames
 mod EmittedRight
+mod BareRight
