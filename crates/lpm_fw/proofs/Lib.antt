@@ -1,4 +1,5 @@
 mod Faults
 mod Choice
 mod Unique
+mod Flows
 mod Opened

@@ -1,6 +1,6 @@
 pub mod RouteView
 pub mod Scan
 pub mod RuleView
-pub mod Allowed
+pub mod RulesModel
 pub mod Inspection
 pub mod Laws

@@ -1,12 +1,12 @@
 //! Stateful inspection: the items of flows, decided one by one.
 
-ghost use Rattle.std.specs.Prelude.{◌≡◌, ◌==◌, ◌||◌, ◌&&◌, ℕ, List, false, IsTrue, IsOk, IfOk, OnOk, OnErr, map, option_map};
+ghost use Rattle.std.specs.Prelude.{◌≡◌, ◌&&◌, if◌then◌else◌, ℕ, List, false, IsOk, IfOk, OnOk, OnErr, option_map};
+ghost use Rattle.std.specs.FinSet as set;
 ghost use Rattle.brick_spec.specs.FlowStage.{FlowItem, left_by};
 ghost use Rattle.brick_spec.specs.Firewall as spec;
 ghost use Rattle.brick_base.specs.Flow.{dir_view};
 ghost use Rattle.tcp_udp.specs.View.{tuple_view};
-ghost use Rattle.lpm_fw.specs.Allowed.{is_allowed};
-ghost use Rattle.lpm_fw.specs.RuleView.{verdict_view, rule_view};
+ghost use Rattle.lpm_fw.specs.RuleView.{verdict_view};
 ghost use Rattle.lpm_fw.specs.Inspection.{stage_of, StandsFor, with_item, IsItem, outcome_by};
 
 use crate::established::Established;
@@ -16,7 +16,7 @@ use tcp_udp::Tuple;
 
 /// What the rules alone say of a frame. One without the IPv4 layer is allowed.
 fn verdict_of(rules: &Rules, t: &Option<Tuple>) -> Verdict
-    ensures { spec.is_allow (verdict_view result) ≡ spec.allows_tuple (map rule_view rules.now.rows.items) (verdict_view rules.now.default) (option_map tuple_view t.now) }
+    ensures { spec.is_allow (verdict_view result) ≡ spec.allows_tuple rules.now.rows rules.now.default (option_map tuple_view t.now) }
 {
     match t {
         None => Verdict::Allow,
@@ -32,9 +32,9 @@ fn inspect_forward(
     flow: u32,
     t: &Option<Tuple>,
 ) -> Result<Verdict, NoMemory>
-    ensures verdict { IfOk result (λ verdict. spec.is_allow (verdict_view verdict) ≡ spec.allows_tuple (map rule_view rules.now.rows.items) (verdict_view rules.now.default) (option_map tuple_view t.now)) }
-    ensures ok { IfOk result (λ verdict. (other : ℕ) → is_allowed flows.new other ≡ (((established && spec.is_allow (verdict_view verdict)) && flow == other) || is_allowed flows.old other)) }
-    ensures err { OnErr result ((other : ℕ) → is_allowed flows.new other ≡ is_allowed flows.old other) }
+    ensures verdict { IfOk result (λ verdict. spec.is_allow (verdict_view verdict) ≡ spec.allows_tuple rules.now.rows rules.now.default (option_map tuple_view t.now)) }
+    ensures ok { IfOk result (λ verdict. flows.new ≡ (if established && spec.is_allow (verdict_view verdict) then set.insert flows.old flow else flows.old)) }
+    ensures err { OnErr result (flows.new ≡ flows.old) }
     ensures off { established ≡ false → IsOk result }
 {
     let verdict = verdict_of(rules, t);
@@ -59,9 +59,9 @@ pub fn inspect(
         → IfOk result (λ verdict. (stage_of established rules.now).told (before class.now.flow) x ≡ left_by x (outcome_by (verdict_view verdict) x.item)) }
     ensures kept { (before : ℕ → List FlowItem) (x : FlowItem) → StandsFor established rules.now flows.old before → IsItem class.now t.now x
         → OnOk result (StandsFor established rules.now flows.new (with_item before class.now.flow x)) }
-    ensures err { OnErr result ((other : ℕ) → is_allowed flows.new other ≡ is_allowed flows.old other) }
+    ensures err { OnErr result (flows.new ≡ flows.old) }
     ensures off { established ≡ false → IsOk result }
-    ensures unkept { established ≡ false → (other : ℕ) → is_allowed flows.new other ≡ is_allowed flows.old other }
+    ensures unkept { established ≡ false → flows.new ≡ flows.old }
 {
     match class.dir {
         Dir::Forward => inspect_forward(rules, established, flows, class.flow, t),

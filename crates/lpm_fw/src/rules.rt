@@ -1,11 +1,12 @@
 //! The rules of a firewall.
 
-ghost use Rattle.std.specs.Prelude.{◌≡◌, ℕ, map, option_map};
+ghost use Rattle.std.specs.Prelude.{◌≡◌, map, option_map};
 ghost use Rattle.brick_spec.specs.Firewall as spec;
 ghost use Rattle.tcp_udp.specs.View.{tuple_view};
 ghost use Rattle.tcp_udp.specs.MatchView.{match_view};
 ghost use Rattle.lpm_fw.specs.RuleView.{verdict_view, rule_view};
 
+use std::marker::Model;
 use tcp_udp::{Match, Tuple};
 
 /// What a firewall says of a frame.
@@ -29,6 +30,16 @@ pub struct Rules {
     default: Verdict,
 }
 
+impl Model for Rules {
+    ghost use Rattle.std.specs.Prelude.{map};
+    ghost use Rattle.lpm_fw.specs.RuleView.{verdict_view, rule_view};
+    ghost use Rattle.lpm_fw.specs.RulesModel.{RulesModel};
+
+    ghost Value = { RulesModel };
+
+    ghost view = { λ r. record { rows = map rule_view r.rows.items; default = verdict_view r.default } };
+}
+
 /// Whether a frame of this five-tuple meets the match, if there is one.
 fn is_met(wanted: &Option<Match>, t: &Tuple) -> bool
     ensures { result ≡ spec.is_met (option_map match_view wanted.now) (tuple_view t.now) }
@@ -42,15 +53,15 @@ fn is_met(wanted: &Option<Match>, t: &Tuple) -> bool
 impl Rules {
     /// These rules, and what is said where none is met.
     pub fn new(rows: Vec<Rule>, default: Verdict) -> Rules
-        ensures rows { result.rows ≡ rows }
-        ensures default { result.default ≡ default }
+        ensures rows { result.rows ≡ map rule_view rows.items }
+        ensures default { result.default ≡ verdict_view default }
     {
         Rules { rows, default }
     }
 
     /// What is said of a frame of this five-tuple: the first rule that is met decides, and else the default.
     pub fn verdict(&self, t: &Tuple) -> Verdict
-        ensures { verdict_view result ≡ spec.verdict_of (map rule_view self.now.rows.items) (verdict_view self.now.default) (tuple_view t.now) }
+        ensures { verdict_view result ≡ spec.verdict_of self.now.rows self.now.default (tuple_view t.now) }
     {
         for rule in &self.rows {
             if is_met(&rule.wanted, t) {
