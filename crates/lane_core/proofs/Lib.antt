@@ -1,0 +1,10 @@
+mod Counting
+mod Moves
+mod Lawful
+mod Finished
+mod Stated
+mod Turns
+mod Still
+mod Knows
+mod Worked
+mod AtEnd
