@@ -1,5 +1,5 @@
 -- Firewall meaning: what a list of rules makes of a flow.
-use Rattle.std.specs.Prelude.{ℕ, Bool, true, false, ◌&&◌, ◌||◌, if◌then◌else◌, Option, Some, None, List, [], ◌∷◌, Ok, Err}
+use Rattle.std.specs.Prelude.{Bool, true, false, ◌&&◌, ◌||◌, if◌then◌else◌, Option, Some, None, List, [], ◌∷◌, Ok, Err}
 use Rattle.std.specs.List.{list_any}
 use Rattle.brick_spec.specs.Tuple.{Tuple, tuple_of}
 use Rattle.brick_spec.specs.Match.{Match, meets_tuple}
@@ -54,6 +54,6 @@ opens rules default x = is_forward x.dir && allows rules default x
 -- Else the rules decide.
 abbrev pub firewall : Bool → List Rule → Verdict → FlowStage
 firewall established rules default = record {
-  told = λ before x. left_by x (if (established && (is_reversed x.dir && list_any (opens rules default) before)) || allows rules default x then Ok x.item else Err Fire);
-  rest = λ all n. nothing;
+  on_item = λ before x. left_by x (if (established && (is_reversed x.dir && list_any (opens rules default) before)) || allows rules default x then Ok x.item else Err Fire);
+  at_end = λ all n. nothing;
 }

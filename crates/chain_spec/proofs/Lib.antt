@@ -1,1 +1,4 @@
 pub mod Walks
+pub mod FileNames
+pub mod Lists
+pub mod Outputs

@@ -1,6 +1,7 @@
 -- Accepted words: which words after the program's name are a line, and which line. The matches of the crate `clap` for the
 -- command `bricks [--workers N] MODE CHAINS OUT` exist, and the rules below hold. A request for help is no line.
-use Rattle.std.specs.Prelude.{ℕ, ◌+◌, ◌*◌, ◌-◌, ◌^◌, ◌&&◌, ◌==◌, Bool, true, not, List, [], ◌∷◌, length, slice_index, Option, Some, None, IsSome, codes, if◌then◌else◌, nat_lt, nat_le}
+use Rattle.std.specs.Prelude.{ℕ, ◌+◌, ◌*◌, ◌-◌, ◌^◌, ◌&&◌, ◌||◌, ◌==◌, Bool, true, not, List, [], ◌∷◌, length, slice_index, Option, Some, None, IsSome, is_some, codes, if◌then◌else◌, nat_lt, nat_le}
+use Rattle.std.specs.List.{list_all}
 use Rattle.std.specs.Str.{bytes_eq}
 use Rattle.clap.specs.Words.{App, Row, Rule, Text, matches_of, new_app, new_rule, with_rule, fault_of, Kinds, first_of}
 use Rattle.clap.specs.Simple.{on_top}
@@ -32,10 +33,14 @@ rows words = where_none (fault_of command words) (matches_of command words)
 -- A LINE
 
 pub data Mode : Type 0 where
-  -- runs the tenants, and writes their files
+  -- runs the tenants without lanes, and writes their files
   Inline : Mode
   -- reads the chain file alone
   Check : Mode
+  -- runs the tenants over lanes and workers
+  Run : Mode
+  -- makes a capture and a chain file, and runs them without lanes
+  Gen : Mode
 
 -- what is to be done, with how many workers, the name of the chain file, and the folder that is written to
 pub record Line : Type 0 where
@@ -50,8 +55,18 @@ abbrev pub ◌>>=◌ : {A B : Type 0} → Option A → (A → Option B) → Opti
 None >>= f = None
 
 -- MODE
+
+-- the mode of the first of the words that is this one
+abbrev pub mode_among : List (Text × Mode) → Text → Option Mode
+mode_among [] text = None
+mode_among (m ∷ ms) text = if bytes_eq text m.0 then Some m.1 else mode_among ms text
+
+-- the words of the modes that there are today
+abbrev pub modes : List (Text × Mode)
+modes = (codes "inline", Inline) ∷ (codes "check", Check) ∷ []
+
 abbrev pub mode_of : Text → Option Mode
-mode_of text = if bytes_eq text (codes "inline") then Some Inline else (if bytes_eq text (codes "check") then Some Check else None)
+mode_of text = mode_among modes text
 
 -- NUMBERS: decimal digits without sign or leading zero
 
@@ -78,6 +93,23 @@ number text = if nat_lt 0 (length text) && not (has_leading_zero text) then numb
 abbrev pub workers_of : Text → Option ℕ
 workers_of text = number text >>= λ n. if nat_le 1 n && nat_le n 16 then Some n else None
 
+-- a letter, a digit, `_`, `.`, `/` or `-`
+abbrev pub is_path_byte : ℕ → Bool
+is_path_byte c = (nat_le 97 c && nat_le c 122) || ((nat_le 65 c && nat_le c 90) || (is_digit c || (c == 95 || (c == 46 || (c == 47 || c == 45)))))
+
+-- the folder of mode `gen`: 1 to 200 such characters
+abbrev pub is_plain_folder : Text → Bool
+is_plain_folder out = nat_le 1 (length out) && (nat_le (length out) 200 && list_all is_path_byte out)
+
+-- the number that a generated capture is made of: 1 to 20 digits, zeros in front too, below 2^64
+abbrev pub generated_number : Text → Option ℕ
+generated_number text = if nat_le 1 (length text) && nat_le (length text) 20 then number_after 0 text else None
+
+-- In mode `gen` CHAINS is that number.
+abbrev pub fits_mode : Mode → Text → Text → Bool
+fits_mode Gen chains out = is_some (generated_number chains) && is_plain_folder out
+fits_mode _ chains out = true
+
 -- the line that the matches are
 unfoldable pub line_in : List Row → Option Line
 line_in rows = do
@@ -85,7 +117,7 @@ line_in rows = do
   workers ← first_of (codes "workers") rows >>= workers_of
   chains ← first_of (codes "CHAINS") rows
   out ← first_of (codes "OUT") rows
-  Some (record { mode = mode; workers = workers; chains = chains; out = out })
+  if fits_mode mode chains out then Some (record { mode = mode; workers = workers; chains = chains; out = out }) else None
 
 -- the line that the words are, and none where they are no line
 abbrev pub line_of : List (List ℕ) → Option Line
