@@ -27,6 +27,8 @@ pub struct Ends {
 pub struct Class {
     /// The number of its flow, from 0.
     pub flow: u32,
+    /// The number of the record that opened the flow, from 0 at the head of the capture.
+    pub opened: u32,
     /// Its direction in the flow.
     pub dir: Dir,
     /// How many ranked flows of the tenant were opened before this one, where it has a rank.

@@ -9,6 +9,7 @@ mod hashing;
 mod layer;
 mod lists;
 mod memory;
+mod sent;
 mod sums;
 #[cfg(test)]
 mod tests;

@@ -2,3 +2,5 @@ mod Places
 mod More
 mod Views
 mod Captures
+pub mod Known
+mod FlowNumbers

@@ -1,5 +1,5 @@
 -- A flow more, in the list and in the maps.
-use Rattle.std.proofs.Common.{◌≡◌, ℕ, ◌+◌, ◌<◌, ◌≤◌, Bool, true, false, cond, ltb, eqb, nat_eq, ◌&&◌, refl, sym, ◌∙◌, ap, subst, not, arith, inl, inr, ◌⊎◌, ⊎_elim, get_or, List, [], ◌∷◌, ◌++◌, length, Option, Some, None}
+use Rattle.std.proofs.Common.{◌≡◌, ℕ, ◌+◌, ◌<◌, ◌≤◌, Bool, true, false, cond, ltb, eqb, nat_eq, ◌&&◌, refl, sym, ◌∙◌, ap, subst, not, arith, inl, inr, ◌⊎◌, ⊎_elim, List, [], ◌∷◌, ◌++◌, length, Option, Some, None}
 use Rattle.std.specs.List.{position, position_or_len, slice_get, count_by}
 use Rattle.std.specs.Option.{is_none, is_some, option_or, option_map}
 use Rattle.std.specs.BTreeMap.{BTreeMap, get, is_at}
@@ -7,15 +7,15 @@ use Rattle.std.specs.Ordering.{is_eq, ordering_then, nat_cmp}
 use Rattle.std.specs.declared.cmp.Ordering.{Ordering}
 use Rattle.std.specs.declared.cmp.Ordering.TheVariants.{Less, Equal, Greater}
 use Rattle.std.proofs.lemmas.List.{get_or_append_left, get_or_push, length_push}
-use Rattle.std.proofs.lemmas.List.Sums.{position_or_len_is, sum_by_push, prefix_len-le-length}
+use Rattle.std.proofs.lemmas.List.Sums.{sum_by_push, prefix_len-le-length}
 use Rattle.std.proofs.lemmas.List.Folds.{position_or_len_push}
-use Rattle.std.proofs.lemmas.Option.{slice_get_past, slice_get_within, same_Some, none-some, slice_get-get_or, get_or_from_slice_get}
+use Rattle.std.proofs.lemmas.Option.{slice_get_within, same_Some, none-some, slice_get-get_or}
 use Rattle.std.proofs.lemmas.Bool.{cases_lt}
 use Rattle.std.proofs.lemmas.Bool.Decides.{nat_tests}
 use Rattle.flow_key.specs.declared.key.Key.{Key}
 use Rattle.flow_key.specs.declared.key.End.{End}
 use Rattle.brick_spec.specs.Tuple.{Tuple}
-use Rattle.brick_spec.specs.FlowClass.{NatPlan, Opened, End as SpecEnd, Key as SpecKey, key_of, is_same_key, is_same_end, flow_at, has_first_key, has_key, is_other_flow, is_ranked, same_key_of, found_by, found_in, reply_of}
+use Rattle.brick_spec.specs.FlowClass.{Opened, End as SpecEnd, Key as SpecKey, key_of, is_same_key, is_same_end, flow_at, has_first_key, has_key, is_other_flow, is_ranked, same_key_of, found_by}
 use Rattle.flow_key.specs.View.{end_view, key_view}
 use Rattle.flow_key.specs.Maps.{AreRanks, AreFound, key_cmp, end_cmp}
 
@@ -94,10 +94,10 @@ other_more flows (Some t) new other first none e =
     ∙ or_none (position is_other_flow flows))
 
 flow_below : (flows : List Opened) (new : Opened) (i : ℕ) → i < length flows → flow_at (flows ++ new ∷ []) i ≡ flow_at flows i
-flow_below flows new i below = get_or_append_left flows (new ∷ []) (record { first = None; rank = None }) i below
+flow_below flows new i below = get_or_append_left flows (new ∷ []) (record { first = None; rank = None; opened = 0 }) i below
 
 flow_end : (flows : List Opened) (new : Opened) (i : ℕ) → length flows ≡ i → flow_at (flows ++ new ∷ []) i ≡ new
-flow_end flows new i e = get_or_push flows new (record { first = None; rank = None }) i e
+flow_end flows new i e = get_or_push flows new (record { first = None; rank = None; opened = 0 }) i e
 
 get_below : (xs : List ℕ) (y r : ℕ) → r < length xs → slice_get (xs ++ y ∷ []) r ≡ slice_get xs r
 get_below xs y r below =

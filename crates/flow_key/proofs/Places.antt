@@ -1,10 +1,10 @@
 -- A search that finds one place or none.
-use Rattle.std.proofs.Common.{◌≡◌, ℕ, ◌+◌, ◌<◌, ◌≤◌, Bool, true, false, cond, ltb, refl, sym, ◌∙◌, ap, arith, inl, inr, ⊎_elim, get_or, List, [], ◌∷◌, ◌++◌, length, Option, Some, None}
+use Rattle.std.proofs.Common.{◌≡◌, ℕ, ◌<◌, ◌≤◌, Bool, true, false, cond, ltb, refl, sym, ◌∙◌, ap, arith, get_or, List, length, Option, Some, None}
 use Rattle.std.specs.List.{position, position_or_len, slice_get}
 use Rattle.std.specs.Option.{IfSome}
 use Rattle.std.proofs.lemmas.List.Sums.{position_or_len_is}
 use Rattle.std.proofs.lemmas.List.Quantifiers.{position-Some}
-use Rattle.std.proofs.lemmas.Option.{slice_get_past, slice_get_within, same_Some, none-some, slice_get-get_or}
+use Rattle.std.proofs.lemmas.Option.{slice_get_past, same_Some, none-some}
 use Rattle.std.proofs.lemmas.Bool.Decides.{nat_tests}
 use Rattle.brick_spec.specs.Tuple.{Tuple}
 use Rattle.brick_spec.specs.FlowClass.{NatPlan, Opened, flow_at, is_reply, is_reply_to}
@@ -37,17 +37,17 @@ position_nothing p xs d none =
 -- what passes has one rank
 module _ (p : Opened → Bool) (rank : Option ℕ) (tells : (f : Opened) → p f ≡ true → f.rank ≡ rank) (flows : List Opened) (ranks : List ℕ) (kept : AreRanks flows ranks) where
   pub no_flow : ((r : ℕ) → rank ≡ Some r → length ranks ≤ r) → ((f : Opened) → p f ≡ true → (r : ℕ) × (f.rank ≡ Some r)) → position p flows ≡ None
-  no_flow past ranked = position_nothing p flows (record { first = None; rank = None }) (λ k below passes.
+  no_flow past ranked = position_nothing p flows (record { first = None; rank = None; opened = 0 }) (λ k below passes.
       let r = ranked (flow_at flows k) passes in
       let e = kept.all k r.0 below r.1 in
       none-some k (sym (slice_get_past ranks r.0 (past r.0 (sym (tells (flow_at flows k) passes) ∙ r.1))) ∙ e))
 
   pub one_flow : (r i : ℕ) → rank ≡ Some r → slice_get ranks r ≡ Some i → p (flow_at flows i) ≡ true → position p flows ≡ Some i
-  one_flow r i e there passes = position_only p flows i (record { first = None; rank = None }) (kept.here r i there).0 passes (λ k below passes'.
+  one_flow r i e there passes = position_only p flows i (record { first = None; rank = None; opened = 0 }) (kept.here r i there).0 passes (λ k below passes'.
       let e' = kept.all k r below (tells (flow_at flows k) passes' ∙ e) in same_Some k i (sym e' ∙ there))
 
   pub failed_flow : (r i : ℕ) → rank ≡ Some r → slice_get ranks r ≡ Some i → p (flow_at flows i) ≡ false → position p flows ≡ None
-  failed_flow r i e there fails = position_nothing p flows (record { first = None; rank = None }) (λ k below passes.
+  failed_flow r i e there fails = position_nothing p flows (record { first = None; rank = None; opened = 0 }) (λ k below passes.
       let e' = kept.all k r below (tells (flow_at flows k) passes ∙ e) in
       let same = same_Some k i (sym e' ∙ there) in
       let passes' = sym (ap (λ n. p (flow_at flows n)) same) ∙ passes in cc)

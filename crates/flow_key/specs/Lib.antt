@@ -3,3 +3,4 @@ pub mod OpenedView
 pub mod Maps
 pub mod Found
 pub mod Frames
+pub mod Laws

@@ -1,23 +1,32 @@
 -- What a classifier keeps, and what its maps find.
-use Rattle.std.specs.Prelude.{ℕ, ◌≡◌, ◌<◌, ◌≤◌, ◌^◌, Option, Some, None, List, length, count_by, map, option_map}
+use Rattle.std.specs.Prelude.{ℕ, ◌≡◌, ◌+◌, ◌<◌, ◌≤◌, ◌^◌, Option, Some, List, length, count_by}
 use Rattle.std.specs.Ordering.{nat_cmp, ordering_then}
 use Rattle.std.specs.declared.cmp.Ordering.{Ordering}
 use Rattle.std.specs.List.{position, slice_get}
 use Rattle.std.specs.BTreeMap.{BTreeMap, get}
 use Rattle.brick_spec.specs.FlowClass as spec
+use Rattle.brick_spec.specs.Flow.{Class}
+use Rattle.brick_spec.specs.Tuple.{Tuple}
 use Rattle.flow_key.specs.declared.key.Key.{Key}
 use Rattle.flow_key.specs.declared.key.End.{End}
 use Rattle.flow_key.specs.View.{key_view}
 
--- The plan, the flows that the records so far opened, and how many records there were.
-pub record Seen : Type 0 where
+-- The plan, and what is known by the records so far.
+pub record ClassifierModel : Type 0 where
   pub plan : Option spec.NatPlan
-  pub flows : List spec.Opened
-  pub records : ℕ
+  pub known : spec.Known
 
--- what was seen of some frames
-abbrev pub seen_of : Option spec.NatPlan → List (List ℕ) → Seen
-seen_of plan frames = record { plan = plan; flows = spec.flows_of plan frames; records = length frames }
+-- what a classifier is once the records of these frames were classified
+abbrev pub after_frames : Option spec.NatPlan → List (List ℕ) → ClassifierModel
+after_frames plan frames = record { plan = plan; known = spec.known_of plan frames }
+
+-- and once a record of this five-tuple is classified too
+abbrev pub after_record : ClassifierModel → Option Tuple → ClassifierModel
+after_record c t = record { plan = c.plan; known = record { flows = spec.flows_after c.plan c.known.flows c.known.records t; records = c.known.records + 1 } }
+
+-- the class of that record
+abbrev pub class_of_record : ClassifierModel → Option Tuple → Class
+class_of_record c t = spec.class_in c.plan c.known.flows c.known.records t
 
 abbrev pub end_cmp : End → End → Ordering
 end_cmp a b = ordering_then (nat_cmp a.address b.address) (nat_cmp a.port b.port)

@@ -38,21 +38,21 @@ impl Model for Classifier {
     ghost use Rattle.std.specs.Prelude.{map, option_map};
     ghost use Rattle.flow_key.specs.View.{plan_view};
     ghost use Rattle.flow_key.specs.OpenedView.{opened_view};
-    ghost use Rattle.flow_key.specs.Maps.{Seen, AreMaps};
+    ghost use Rattle.flow_key.specs.Maps.{ClassifierModel, AreMaps};
 
-    ghost Value = { Seen };
+    ghost Value = { ClassifierModel };
 
-    ghost view = { λ c. record { plan = option_map plan_view c.plan; flows = map opened_view c.flows.items; records = c.records } };
+    ghost view = { λ c. record { plan = option_map plan_view c.plan; known = record { flows = map opened_view c.flows.items; records = c.records } } };
 
     ghost invariant = { λ c. AreMaps (map opened_view c.flows.items) c.keys c.other c.ranks.items c.records };
 }
 
 impl Classifier {
-    ghost use Rattle.flow_key.specs.Maps.{Seen, seen_of};
+    ghost use Rattle.flow_key.specs.Maps.{after_frames, after_record, class_of_record};
 
     /// A classifier to which no record came.
     pub fn new(alloc: Global, nat: Option<NatPlan>) -> Result<Classifier, NoMemory>
-        ensures { IfOk result (λ c. c ≡ seen_of (option_map plan_view nat) []) }
+        ensures { IfOk result (λ c. c ≡ after_frames (option_map plan_view nat) []) }
     {
         Ok(Classifier {
             plan: nat,
@@ -66,9 +66,9 @@ impl Classifier {
 
     /// The class of the next record, by its frame and by the frames so far. Without memory nothing changes.
     pub fn classify(&mut self, frame: &[u8]) -> Result<Class, NoMemory>
-        requires { self.old.records < 2 ^ 32 }
-        ensures class { (plan : Option spec.NatPlan) (frames : List (List ℕ)) → self.old ≡ seen_of plan frames → IfOk result (λ c. class_view c ≡ spec.class_of plan frames frame.now) }
-        ensures seen { (plan : Option spec.NatPlan) (frames : List (List ℕ)) → self.old ≡ seen_of plan frames → OnOk result (self.new ≡ seen_of plan (frames ++ frame.now ∷ [])) }
+        requires { self.old.known.records < 2 ^ 32 }
+        ensures class { (plan : Option spec.NatPlan) (frames : List (List ℕ)) → self.old ≡ after_frames plan frames → IfOk result (λ c. class_view c ≡ spec.class_of plan frames frame.now) }
+        ensures known { (plan : Option spec.NatPlan) (frames : List (List ℕ)) → self.old ≡ after_frames plan frames → OnOk result (self.new ≡ after_frames plan (frames ++ frame.now ∷ [])) }
         ensures err { OnErr result (self.new ≡ self.old) }
     {
         self.see(&Tuple::read(frame))
@@ -76,9 +76,9 @@ impl Classifier {
 
     /// The class of the next record, by its five-tuple and by the flows that were opened.
     fn see(&mut self, tuple: &Option<Tuple>) -> Result<Class, NoMemory>
-        requires { self.old.records < 2 ^ 32 }
-        ensures class { IfOk result (λ c. class_view c ≡ spec.class_in self.old.plan self.old.flows (option_map tuple_view tuple.now)) }
-        ensures seen { OnOk result (self.new ≡ record { plan = self.old.plan; flows = spec.flows_after self.old.plan self.old.flows (option_map tuple_view tuple.now); records = self.old.records + 1 }) }
+        requires { self.old.known.records < 2 ^ 32 }
+        ensures class { IfOk result (λ c. class_view c ≡ class_of_record self.old (option_map tuple_view tuple.now)) }
+        ensures known { OnOk result (self.new ≡ after_record self.old (option_map tuple_view tuple.now)) }
         ensures err { OnErr result (self.new ≡ self.old) }
     {
         match find(
@@ -99,10 +99,10 @@ impl Classifier {
 
     /// The record opens a flow.
     fn open(&mut self, tuple: &Option<Tuple>) -> Result<Class, NoMemory>
-        requires few { self.old.records < 2 ^ 32 }
-        requires none { spec.found_in self.old.plan self.old.flows (option_map tuple_view tuple.now) ≡ None }
-        ensures class { IfOk result (λ c. class_view c ≡ spec.class_in self.old.plan self.old.flows (option_map tuple_view tuple.now)) }
-        ensures seen { OnOk result (self.new ≡ record { plan = self.old.plan; flows = spec.flows_after self.old.plan self.old.flows (option_map tuple_view tuple.now); records = self.old.records + 1 }) }
+        requires few { self.old.known.records < 2 ^ 32 }
+        requires none { spec.found_in self.old.plan self.old.known.flows (option_map tuple_view tuple.now) ≡ None }
+        ensures class { IfOk result (λ c. class_view c ≡ class_of_record self.old (option_map tuple_view tuple.now)) }
+        ensures known { OnOk result (self.new ≡ after_record self.old (option_map tuple_view tuple.now)) }
         ensures err { OnErr result (self.new ≡ self.old) }
     {
         self.flows.reserve(1)?;
@@ -111,10 +111,7 @@ impl Classifier {
         let ranked = goes_out(&self.plan, tuple);
         put_key(&mut self.keys, &mut self.other, tuple, number)?;
         let rank = put_rank(&mut self.ranks, ranked, number);
-        let flow = Opened {
-            first: *tuple,
-            rank,
-        };
+        let flow = Opened::by(tuple, rank, self.records as u32);
         push_flow(&mut self.flows, flow);
         self.records += 1;
         Ok(class_with(number, Dir::Forward, flow))

@@ -12,7 +12,7 @@ ghost use Rattle.flow_key.specs.Found.{found_view};
 ghost use Rattle.flow_key.specs.Maps.{AreRanks, AreFound, key_cmp};
 ghost use Rattle.flow_key.specs.declared.key.Key.{Key};
 
-use crate::ends::{destination_end, flow_hash, is_same_end, key_of, source_end};
+use crate::ends::{destination_end, is_same_end, key_of, source_end};
 use crate::key::Key;
 use crate::opened::Opened;
 use crate::plan::NatPlan;
@@ -120,9 +120,10 @@ pub(crate) fn class_with(number: u32, dir: Dir, flow: Opened) -> Class
 {
     Class {
         flow: number,
+        opened: flow.opened,
         dir,
         rank: flow.rank,
-        hash: flow_hash(&flow.first),
+        hash: flow.hash,
         first: ends_of(flow.first),
         other: flow.first.is_none(),
     }

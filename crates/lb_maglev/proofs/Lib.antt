@@ -3,3 +3,4 @@ pub mod Searches
 pub mod ShareLemmas
 pub mod TurnLemmas
 pub mod WalkLemmas
+pub mod EpochLemmas

@@ -5,12 +5,15 @@
 //! differ by at most one.
 #![tactic(auto)]
 
+mod epochs;
 mod hashes;
 pub mod plain;
+mod sent;
 mod table;
 #[cfg(test)]
 mod tests;
 mod turns;
 mod walk;
 
+pub use epochs::{Epoch, Epochs, are_named};
 pub use table::Maglev;

@@ -1,6 +1,7 @@
-use crate::{Maglev, plain};
+use crate::{Epoch, Epochs, Maglev, are_named, plain};
 use brick_base::Name;
 use std::alloc::Global;
+use std::process::Abort;
 use std::test::Fail;
 
 /// As many names: `a`, `b`, `c` and so on, then `name26`, `name27` and so on.
@@ -49,5 +50,35 @@ fn backends_of_hashes(rt: HostRuntime) -> Result<(), Fail> {
     for (hash, want) in [(0, 0), (4, 2), (250, 1), (251, 0), (255, 2), (u64::MAX, 0)] {
         assert_eq!(rt; table.backend(hash), want, "at hash {hash}");
     }
+    Ok(())
+}
+
+/// Epochs that begin at these records, with as many names.
+fn epochs_of(rt: &impl Abort, alloc: Global, rows: &[(u32, u8)]) -> Result<Epochs, Fail> {
+    let mut epochs = Vec::new(alloc);
+    for (from, count) in rows {
+        let names = names_of(alloc, *count)?;
+        epochs.push(Epoch { from: *from, names })?;
+    }
+    assert!(rt; 1 <= epochs.len() && epochs.len() <= 16);
+    assert!(rt; are_named(&epochs));
+    Ok(Epochs::build(alloc, epochs)?)
+}
+
+#[test]
+fn epochs(rt: HostRuntime) -> Result<(), Fail> {
+    let one = epochs_of(&rt, rt.alloc(), &[(0, 1)])?;
+    assert_eq!(rt; one.backend(7, 9), (0, 0));
+
+    // one name to record 1, three from record 2 on, two from record 5 on
+    let changing = epochs_of(&rt, rt.alloc(), &[(0, 1), (2, 3), (5, 2)])?;
+    let rows = [(0, 0), (1, 0), (2, 1), (4, 1), (5, 2), (u32::MAX, 2)];
+    for (opened, epoch) in rows {
+        assert_eq!(rt; changing.backend(opened, 4).0, epoch, "at record {opened}");
+    }
+    assert_eq!(rt;
+        (changing.backend(1, 4), changing.backend(2, 4)),
+        ((0, 0), (1, 2))
+    );
     Ok(())
 }

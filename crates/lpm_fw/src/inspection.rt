@@ -56,7 +56,7 @@ pub fn inspect(
     t: &Option<Tuple>,
 ) -> Result<Verdict, NoMemory>
     ensures verdict { (before : ℕ → List FlowItem) (x : FlowItem) → StandsFor established rules.now flows.old before → IsItem class.now t.now x
-        → IfOk result (λ verdict. (stage_of established rules.now).told (before class.now.flow) x ≡ left_by x (outcome_by (verdict_view verdict) x.item)) }
+        → IfOk result (λ verdict. (stage_of established rules.now).on_item (before class.now.flow) x ≡ left_by x (outcome_by (verdict_view verdict) x.item)) }
     ensures kept { (before : ℕ → List FlowItem) (x : FlowItem) → StandsFor established rules.now flows.old before → IsItem class.now t.now x
         → OnOk result (StandsFor established rules.now flows.new (with_item before class.now.flow x)) }
     ensures err { OnErr result (flows.new ≡ flows.old) }

@@ -6,11 +6,12 @@ mod inspection;
 mod laws;
 mod routes;
 mod rules;
+mod sent;
 #[cfg(test)]
 mod tests;
 
 pub use established::Established;
 pub use inspection::inspect;
-pub use laws::one_longest_prefix;
-pub use routes::{Route, RouteFault, Routes};
+pub use laws::{first_fault_is_first, one_longest_prefix};
+pub use routes::{Route, RouteFault, Routes, are_short};
 pub use rules::{Rule, Rules, Verdict};

@@ -1,12 +1,13 @@
 //! Routes.
 
-ghost use Rattle.std.specs.Prelude.{◌≡◌, ℕ, ◌≤◌, ◌<◌, ◌+◌, ◌^◌, ◌≢◌, length, Option, Some, None, IfOk, OnOk, IfErr, IfSome, MatchOption, take, map};
+ghost use Rattle.std.specs.Prelude.{◌≡◌, ◌↔◌, IsTrue, ℕ, ◌≤◌, ◌<◌, ◌+◌, ◌^◌, ◌≢◌, length, Option, Some, None, IfOk, OnOk, IfErr, IfSome, MatchOption, take, map};
 ghost use Rattle.std.specs.List.{slice_get, position};
 ghost use Rattle.brick_spec.specs.Route as spec;
 ghost use Rattle.lpm_fw.specs.RouteView.{route_view, fault_view};
 ghost use Rattle.lpm_fw.specs.Scan.{AreShort, Best, ScannedFault};
 ghost use Rattle.lpm_fw.specs.declared.routes.RouteFault.TheVariants.{NoMemory};
 
+use std::alloc::Global;
 use std::marker::Model;
 
 /// A row of a table of routes.
@@ -52,7 +53,7 @@ impl Model for Routes {
 impl Routes {
     /// The table of these rows, or the first fault: rows are tried in their order, each for bits past its prefix and then for the
     /// earliest row of the same prefix.
-    pub fn build(rows: Vec<Route>) -> Result<Routes, RouteFault>
+    pub fn build(_alloc: Global, rows: Vec<Route>) -> Result<Routes, RouteFault>
         requires few { length rows.items ≤ 4096 }
         requires short { AreShort rows.items }
         ensures ok { IfOk result (λ routes. routes ≡ rows.items) }
@@ -83,6 +84,18 @@ impl Routes {
 }
 
 ghost use Rattle.lpm_fw.specs.declared.routes.Route.{Route};
+
+/// Whether no row looks at more than 32 bits of an address, as `Routes::build` asks.
+pub fn are_short(rows: &[Route]) -> bool
+    ensures { IsTrue result ↔ AreShort rows.now }
+{
+    for row in rows {
+        if row.bits > 32 {
+            return false;
+        }
+    }
+    true
+}
 
 /// Whether the row's prefix contains the address.
 fn leads_to(row: Route, addr: u32) -> bool

@@ -1,7 +1,6 @@
-ghost use Rattle.std.specs.Prelude.{◌≡◌, IsTrue};
-ghost use Rattle.lpm_fw.specs.Scan.{AreShort};
+ghost use Rattle.std.specs.Prelude.{◌≡◌};
 
-use crate::{Established, Route, RouteFault, Routes, Rule, Rules, Verdict, inspect};
+use crate::{Established, Route, RouteFault, Routes, Rule, Rules, Verdict, are_short, inspect};
 use brick_base::{Class, Dir, Ends};
 use std::alloc::Global;
 use std::process::Abort;
@@ -32,29 +31,16 @@ fn rows_from(alloc: Global, first: usize) -> Result<Vec<Route>, Fail> {
     Ok(rows)
 }
 
-/// Whether no prefix has more than 32 bits.
-fn all_short(rows: &[Route]) -> bool
-    ensures { IsTrue result → AreShort rows.now }
-{
-    for row in rows {
-        if row.bits > 32 {
-            return false;
-        }
-    }
-    true
-}
-
 /// What becomes of a table of these rows.
-fn built(rt: &impl Abort, rows: Vec<Route>) -> Result<Routes, RouteFault> {
+fn built(rt: &impl Abort, alloc: Global, rows: Vec<Route>) -> Result<Routes, RouteFault> {
     assert!(rt; rows.len() <= 4096);
-    let short = all_short(&rows);
-    assert!(rt; short);
-    Routes::build(rows)
+    assert!(rt; are_short(&rows));
+    Routes::build(alloc, rows)
 }
 
 #[test]
 fn the_longest_prefix_is_found(rt: HostRuntime) -> Result<(), Fail> {
-    let routes = built(&rt, rows_from(rt.alloc(), 0)?)?;
+    let routes = built(&rt, rt.alloc(), rows_from(rt.alloc(), 0)?)?;
     let wanted = [
         (0x09ffffff, 0),
         (0x0a000000, 1),
@@ -72,7 +58,7 @@ fn the_longest_prefix_is_found(rt: HostRuntime) -> Result<(), Fail> {
         assert_eq!(rt; routes.find(addr), Some(row), "{addr:x}");
     }
     // without the row for all addresses
-    let routes = built(&rt, rows_from(rt.alloc(), 1)?)?;
+    let routes = built(&rt, rt.alloc(), rows_from(rt.alloc(), 1)?)?;
     assert_eq!(rt; routes.find(0x0b000000), None);
     Ok(())
 }
@@ -86,13 +72,13 @@ fn the_first_fault_is_told(rt: HostRuntime) -> Result<(), Fail> {
         first: 1,
         second: 4,
     };
-    assert_eq!(rt; built(&rt, rows).err(), Some(fault));
+    assert_eq!(rt; built(&rt, rt.alloc(), rows).err(), Some(fault));
     // 10.0.0.1/8 as row 0
     let mut rows = Vec::new(rt.alloc());
     rows.push(row(0x0a000001, 8, 0))?;
     rows.append(&mut rows_from(rt.alloc(), 1)?)?;
     let fault = RouteFault::HostBits { row: 0 };
-    assert_eq!(rt; built(&rt, rows).err(), Some(fault));
+    assert_eq!(rt; built(&rt, rt.alloc(), rows).err(), Some(fault));
     Ok(())
 }
 
@@ -102,7 +88,7 @@ fn a_table_has_4096_rows(rt: HostRuntime) -> Result<(), Fail> {
     for k in 0..4096u32 {
         rows.push(row(0x0a000000 + k * 256, 24, (k % 256) as u8))?;
     }
-    let routes = built(&rt, rows)?;
+    let routes = built(&rt, rt.alloc(), rows)?;
     assert_eq!(rt; routes.find(0x0a0fffff), Some(4095));
     assert_eq!(rt; routes.find(0x0a100000), None);
     Ok(())
@@ -177,6 +163,7 @@ fn the_first_rule_that_is_met_decides(rt: HostRuntime) -> Result<(), Fail> {
 fn class(flow: u32, dir: Dir) -> Class {
     Class {
         flow,
+        opened: 0,
         dir,
         rank: None,
         hash: 0,

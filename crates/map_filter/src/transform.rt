@@ -1,17 +1,18 @@
 ghost use Rattle.std.specs.Prelude.{◌≡◌, ◌≤◌, ◌%◌, ℕ, List, length, false};
 ghost use Rattle.std.specs.Borrow.{MutBor};
-ghost use Rattle.brick_spec.specs.FlowStage.{Came, Left};
+ghost use Rattle.brick_spec.specs.FlowStage.{FlowInput, FlowOutput};
 ghost use Rattle.packet_owner.specs.Packet.{PacketModel, packet_item, here_of, header_of, with_bytes};
 ghost use Rattle.eth_ip.specs.declared.view.Ip4Mut.{Ip4Mut as Header};
-ghost use Rattle.batch_ops.specs.Outlet.{buffer_of};
+ghost use Rattle.batch_ops.specs.Outlet.{keyed};
+ghost use Rattle.batch_ops.specs.Operator.{never_fails};
 ghost use Rattle.batch_ops.specs.Stage.{EachMade};
 ghost use Rattle.map_filter.specs.Closures.{Transformed, Transforms};
 
-use crate::datagram::{close_ip4, read_ip4};
 use batch_ops::{Operator, Outlet};
 use brick_base::{Class, NoMemory, Raw};
 use eth_ip::{Ip4, Ip4Mut};
 use packet_owner::Packet;
+use read_row::{close_ip4, read_ip4};
 
 /// Lets a closure edit a header.
 fn call<F: Fn(&mut Ip4Mut<'_>)>(f: &F, ip4: &mut Ip4Mut<'_>)
@@ -51,7 +52,7 @@ fn edit_ip4<F: Fn(&mut Ip4Mut<'_>)>(f: &F, packet: Packet<Raw>) -> Packet<Raw>
     requires callable { F.IsAlwaysCallable f.now }
     requires keeps { (p q : MutBor Header) → F.post f.now p tt q → q.now.header.ghost_name ≡ p.now.header.ghost_name }
     ensures item { Transformed (λ old new. (p : MutBor Header) × (q : MutBor Header) × (p.now.header.now ≡ old) × F.post f.now p tt q × (q.now.header.now ≡ new)) (packet_item packet) (packet_item result) }
-    ensures buffer { buffer_of result ≡ buffer_of packet }
+    ensures buffer { keyed result ≡ keyed packet }
 {
     match read_ip4(packet) {
         Err(packet) => packet,
@@ -78,16 +79,8 @@ impl<F> Transform<F> {
 }
 
 impl<F: Fn(&mut Ip4Mut<'_>)> Operator for Transform<F> {
-    ghost stands = { λ t flow came left. EachMade (Transforms (λ old new. (p : MutBor Header) × (q : MutBor Header) × (p.now.header.now ≡ old) × F.post t.f p tt q × (q.now.header.now ≡ new))) came.items left };
-
-    /// The closure may be called on any header, and leaves the header where it lies.
-    ghost ready = { λ t. F.IsAlwaysCallable t.f × ((p q : MutBor Header) → F.post t.f p tt q → q.now.header.ghost_name ≡ p.now.header.ghost_name) };
-
-    ghost failed = { λ _. false };
-
-    ghost spares = { λ _. 0 };
-
-    ghost least_room = { λ _. 0 };
+    // The closure may be called on any header, and leaves the header where it lies.
+    ghost meaning = { never_fails (λ t flow came left. EachMade (Transforms (λ old new. (p : MutBor Header) × (q : MutBor Header) × (p.now.header.now ≡ old) × F.post t.f p tt q × (q.now.header.now ≡ new))) came.items left) (λ t. F.IsAlwaysCallable t.f × ((p q : MutBor Header) → F.post t.f p tt q → q.now.header.ghost_name ≡ p.now.header.ghost_name)) };
 
     fn step(&mut self, class: &Class, p: Packet<Raw>, out: &mut Outlet) -> Result<(), NoMemory> {
         let packet = edit_ip4(&self.f, p);

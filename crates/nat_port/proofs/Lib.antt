@@ -1,1 +1,2 @@
+pub mod Layers
 mod Records

@@ -5,7 +5,8 @@ ghost use Rattle.brick_spec.specs.Layer.{source_of, destination_of};
 ghost use Rattle.brick_spec.specs.Edit.{with_source, with_destination};
 ghost use Rattle.brick_spec.specs.AddressTranslation as spec;
 ghost use Rattle.tcp_udp.specs.PlacesIn.{least_header};
-ghost use Rattle.nat_port.specs.Edited.{source_edited, destination_edited, with_part};
+ghost use Rattle.tcp_udp.specs.PlacesIn.{with_part};
+ghost use Rattle.nat_port.specs.Edited.{source_edited, destination_edited};
 
 use eth_ip::{header_destination, header_source, set_header_destination, set_header_source};
 use tcp_udp::{

@@ -6,4 +6,4 @@ mod packets;
 #[cfg(test)]
 mod tests;
 
-pub use packets::translate;
+pub use packets::{translate, translate_bytes};

@@ -33,6 +33,7 @@ fn plan() -> Option<NatPlan> {
 fn class(dir: Dir, rank: Option<u32>) -> Class {
     Class {
         flow: 0,
+        opened: 0,
         dir,
         rank,
         hash: 0,

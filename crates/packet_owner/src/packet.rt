@@ -5,6 +5,7 @@ ghost use Rattle.pcap_io.specs.View.{entry_view, item_view};
 ghost use Rattle.packet_owner.specs.Packet.{PacketModel, AreNested, IsWithin, place_view, here_of, header_of, payload_of, packet_item, parsed, deparsed};
 
 use crate::Buffer;
+use crate::meta::Meta;
 use crate::place::Place;
 use arrayvec::ArrayVec;
 use brick_base::{NoMemory, Proto, Raw};
@@ -17,14 +18,10 @@ use std::marker::{Model, PhantomData};
 #[derive(Drop)]
 pub struct Packet<P: Proto> {
     slot: u32,
-    bytes: Vec<u8>,
     // of the frame
-    len: usize,
-    a: u64,
-    j: u32,
-    seconds: u32,
-    fraction: u32,
-    original: u32,
+    len: u32,
+    bytes: Vec<u8>,
+    meta: Meta,
     // the outermost layer first
     places: ArrayVec<Place, 8>,
     layer: PhantomData<P>,
@@ -36,7 +33,7 @@ impl<P: Proto> Model for Packet<P> {
 
     ghost Value = { PacketModel };
 
-    ghost view = { λ p. record { slot = p.slot; room = vec_len p.bytes; a = p.a; j = p.j; seconds = p.seconds; fraction = p.fraction; original = p.original; frame = take p.len p.bytes.items; layers = map place_view (reverse p.places.items) } };
+    ghost view = { λ p. record { slot = p.slot; room = vec_len p.bytes; a = p.meta.a; j = p.meta.j; seconds = p.meta.seconds; fraction = p.meta.fraction; original = p.meta.original; frame = take p.len p.bytes.items; layers = map place_view (reverse p.places.items) } };
 
     ghost invariant = { λ p. (vec_len p.bytes < 2 ^ 32) × (p.len ≤ vec_len p.bytes) × (length p.places.items ≡ P.DEPTH) × AreNested (map place_view (reverse p.places.items)) p.len };
 }
@@ -67,17 +64,20 @@ impl Packet<Raw> {
         ensures layers { result.layers ≡ [] }
     {
         let Buffer { slot, mut bytes } = buffer;
-        let len = entry.frame.len();
+        let len = entry.frame.len() as u32;
         fill_front(&mut bytes, entry.frame);
-        Packet {
-            slot,
-            bytes,
-            len,
+        let meta = Meta {
             a: number as u64,
             j: 0,
             seconds: entry.seconds,
             fraction: entry.fraction,
             original: entry.original,
+        };
+        Packet {
+            slot,
+            len,
+            bytes,
+            meta,
             places: ArrayVec::new(),
             layer: PhantomData,
         }
@@ -101,15 +101,18 @@ impl Packet<Raw> {
     {
         let Buffer { slot, mut bytes } = buffer;
         clear_front(&mut bytes, len as usize);
-        Packet {
-            slot,
-            bytes,
-            len: len as usize,
+        let meta = Meta {
             a,
             j,
             seconds,
             fraction,
             original: len,
+        };
+        Packet {
+            slot,
+            len,
+            bytes,
+            meta,
             places: ArrayVec::new(),
             layer: PhantomData,
         }
@@ -125,25 +128,20 @@ impl Packet<Raw> {
     {
         let Packet {
             slot,
-            bytes,
             len: _,
-            a,
-            j,
-            seconds,
-            fraction,
-            original: _,
+            bytes,
+            meta,
             places: _,
             layer: _,
         } = self;
         Packet {
             slot,
+            len,
             bytes,
-            len: len as usize,
-            a,
-            j,
-            seconds,
-            fraction,
-            original: len,
+            meta: Meta {
+                original: len,
+                ..meta
+            },
             places: ArrayVec::new(),
             layer: PhantomData,
         }
@@ -151,7 +149,7 @@ impl Packet<Raw> {
 }
 
 impl<P: Proto> Packet<P> {
-    ghost use Rattle.packet_owner.specs.Lends.{LendsHeader, LendsPayload};
+    ghost use Rattle.packet_owner.specs.Lends.{LendsFrame, LendsHeader, LendsPayload};
 
     /// Where its layer stands.
     #[tactic(auto, using(crate::proofs::Layers::innermost_within))]
@@ -175,7 +173,7 @@ impl<P: Proto> Packet<P> {
         ensures layers { length self.now.layers ≡ P.DEPTH }
     {
         let here = self.here();
-        &self.bytes[here.start..here.middle]
+        &self.bytes[here.start as usize..here.middle as usize]
     }
 
     /// The header of its layer, to be written. What is written stands in the frame, and nothing else changes: no layer moves.
@@ -185,7 +183,8 @@ impl<P: Proto> Packet<P> {
         ensures layers { length self.old.layers ≡ P.DEPTH }
     {
         let here = self.here();
-        self.bytes.slice_mut(here.start..here.middle)
+        self.bytes
+            .slice_mut(here.start as usize..here.middle as usize)
     }
 
     /// The payload of its layer: of a packet of which no layer was read, the frame.
@@ -194,7 +193,7 @@ impl<P: Proto> Packet<P> {
         ensures layers { length self.now.layers ≡ P.DEPTH }
     {
         let here = self.here();
-        &self.bytes[here.middle..here.end]
+        &self.bytes[here.middle as usize..here.end as usize]
     }
 
     /// The payload of its layer, to be written. What is written stands in the frame, and nothing else changes.
@@ -204,7 +203,23 @@ impl<P: Proto> Packet<P> {
         ensures layers { length self.old.layers ≡ P.DEPTH }
     {
         let here = self.here();
-        self.bytes.slice_mut(here.middle..here.end)
+        self.bytes
+            .slice_mut(here.middle as usize..here.end as usize)
+    }
+
+    /// Its frame.
+    pub fn frame(&self) -> &[u8]
+        ensures { result.now ≡ self.now.frame }
+    {
+        &self.bytes[..self.len as usize]
+    }
+
+    /// Its frame, to be written. What is written stands in the frame, and nothing else changes: no layer moves.
+    pub fn frame_mut(&mut self) -> &mut [u8]
+        ensures* writes_back { sem 𝓛 (LendsFrame P.row P.Prev.row P.Proto self.entry result) }
+        ensures value { result.now ≡ self.old.frame }
+    {
+        self.bytes.slice_mut(0..self.len as usize)
     }
 
     /// Reads the next layer. Where it is not there the packet comes back.
@@ -222,13 +237,12 @@ impl<P: Proto> Packet<P> {
         match Q::length(self.header(), self.payload()) {
             None => Err(self),
             Some(n) => {
-                let middle = here.middle + n;
-                let room = here.end - here.middle;
+                let room = (here.end - here.middle) as usize;
                 let extent = Q::extent(&self.payload()[..n], room);
                 let place = Place {
                     start: here.middle,
-                    middle,
-                    end: here.middle + extent,
+                    middle: here.middle + n as u32,
+                    end: here.middle + extent as u32,
                 };
                 Ok(self.with_place(place))
             }
@@ -243,26 +257,18 @@ impl<P: Proto> Packet<P> {
     {
         let Packet {
             slot,
-            bytes,
             len,
-            a,
-            j,
-            seconds,
-            fraction,
-            original,
+            bytes,
+            meta,
             mut places,
             layer: _,
         } = self;
         places.push(place);
         Packet {
             slot,
-            bytes,
             len,
-            a,
-            j,
-            seconds,
-            fraction,
-            original,
+            bytes,
+            meta,
             places,
             layer: PhantomData,
         }
@@ -277,26 +283,18 @@ impl<P: Proto> Packet<P> {
     {
         let Packet {
             slot,
-            bytes,
             len,
-            a,
-            j,
-            seconds,
-            fraction,
-            original,
+            bytes,
+            meta,
             mut places,
             layer: _,
         } = self;
         let _innermost = places.pop();
         Packet {
             slot,
-            bytes,
             len,
-            a,
-            j,
-            seconds,
-            fraction,
-            original,
+            bytes,
+            meta,
             places,
             layer: PhantomData,
         }
@@ -306,14 +304,14 @@ impl<P: Proto> Packet<P> {
     pub fn key(&self) -> (u64, u32)
         ensures { result ≡ (self.now.a, self.now.j) }
     {
-        (self.a, self.j)
+        (self.meta.a, self.meta.j)
     }
 
     /// Its time: the seconds since 1970-01-01 00:00:00 UTC, and the microseconds or nanoseconds behind them.
     pub fn times(&self) -> (u32, u32)
         ensures { result ≡ (self.now.seconds, self.now.fraction) }
     {
-        (self.seconds, self.fraction)
+        (self.meta.seconds, self.meta.fraction)
     }
 
     /// The number of its buffer.
@@ -327,13 +325,13 @@ impl<P: Proto> Packet<P> {
     pub fn item(&self, alloc: Global) -> Result<Item, NoMemory>
         ensures { IfOk result (λ i. item_view i ≡ packet_item self.now) }
     {
-        let frame = self.bytes[..self.len].to_vec(alloc)?;
+        let frame = self.bytes[..self.len as usize].to_vec(alloc)?;
         Ok(Item {
-            a: self.a,
-            j: self.j,
-            seconds: self.seconds,
-            fraction: self.fraction,
-            original: self.original,
+            a: self.meta.a,
+            j: self.meta.j,
+            seconds: self.meta.seconds,
+            fraction: self.meta.fraction,
+            original: self.meta.original,
             frame: Frame::of(frame),
         })
     }
@@ -344,13 +342,9 @@ impl<P: Proto> Packet<P> {
     {
         let Packet {
             slot,
-            bytes,
             len: _,
-            a: _,
-            j: _,
-            seconds: _,
-            fraction: _,
-            original: _,
+            bytes,
+            meta: _,
             places: _,
             layer: _,
         } = self;

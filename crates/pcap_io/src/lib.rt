@@ -13,6 +13,7 @@ mod item;
 mod laws;
 mod number;
 mod record;
+mod sent;
 #[cfg(test)]
 mod tests;
 mod writer;
@@ -25,4 +26,4 @@ pub use laws::{
     capture_is_unique, each_is_whole_or_faulty, fault_is_unique, foreign_capture_is_whole,
     none_is_whole_and_faulty, written_is_capture,
 };
-pub use writer::Writer;
+pub use writer::{Writer, file_header, record_head};

@@ -27,9 +27,9 @@ impl Model for Writer {
     ghost view = { λ w. w.bytes.items };
 }
 
-/// The file header.
+/// The file header of a capture that is written, whose fractions are nanoseconds or else microseconds.
 #[tactic(auto, unfolding(brick_spec::specs::Bytes::two_bytes, brick_spec::specs::Bytes::four_bytes, brick_spec::specs::Capture::header_text))]
-fn file_header(nano: bool) -> [u8; 24]
+pub fn file_header(nano: bool) -> [u8; 24]
     ensures { result ≡ header_text nano }
 {
     let mut header = [0; HEADER];
@@ -39,13 +39,20 @@ fn file_header(nano: bool) -> [u8; 24]
     header
 }
 
-/// The four numbers of an item's record, which stand in front of its frame.
+/// The lowest 32 bits of the length.
+fn low_length(bytes: &[u8]) -> u32
+    ensures { four_bytes Little result ≡ four_bytes Little (length bytes.now) }
+{
+    (bytes.len() % 4_294_967_296) as u32
+}
+
+/// The four numbers of an item's record, which stand in front of its frame, little-endian. Of the captured length the lowest 32 bits are
+/// told, which is all of it up to 4,294,967,295 bytes.
 #[tactic(auto, unfolding(brick_spec::specs::Bytes::four_bytes))]
-fn record_head(item: &Item) -> [u8; 16]
-    requires { length item.now.frame ≤ 262144 }
+pub fn record_head(item: &Item) -> [u8; 16]
     ensures { result ≡ four_bytes Little item.now.seconds ++ (four_bytes Little item.now.fraction ++ (four_bytes Little (length item.now.frame) ++ four_bytes Little item.now.original)) }
 {
-    let captured = item.frame.as_slice().len() as u32;
+    let captured = low_length(item.frame.as_slice());
     let numbers = [item.seconds, item.fraction, captured, item.original];
     let mut head = [0; HEAD];
     LittleEndian::write_u32_into(&numbers, &mut head);

@@ -7,3 +7,4 @@ pub mod Addresses
 pub mod Frames
 pub mod PacketLayers
 pub mod Placed
+pub mod TcpFrames

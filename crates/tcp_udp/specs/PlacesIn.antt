@@ -1,6 +1,6 @@
 -- Where the IPv4 header and the transport header of a frame stand.
-use Rattle.std.specs.Prelude.{ℕ, ◌≡◌, ◌+◌, ◌-◌, ◌%◌, ◌≤◌, List, length, Some, None}
-use Rattle.brick_spec.specs.Layer.{Layer, ip4_layer, tcp_layer_in, udp_layer_in}
+use Rattle.std.specs.Prelude.{ℕ, ◌≡◌, ◌+◌, ◌-◌, ◌%◌, ◌≤◌, List, ◌++◌, length, take, drop, Some, None}
+use Rattle.brick_spec.specs.Layer.{Layer, ip4_layer, tcp_layer, tcp_layer_in, udp_layer_in}
 use Rattle.tcp_udp.specs.declared.places.Transport.{Transport}
 use Rattle.tcp_udp.specs.declared.places.Transport.TheVariants.{Tcp, Udp}
 use Rattle.tcp_udp.specs.declared.places.Places.{Places}
@@ -35,3 +35,11 @@ pub record ArePlaces (frame : List ℕ) (p : Places) : Type 0 where
 -- the frame has no transport layer
 abbrev pub HasNoPorts : List ℕ → Type 0
 HasNoPorts frame = (l : Layer) → ip4_layer frame ≡ Some l → (tcp_layer_in frame l ≡ None) × (udp_layer_in frame l ≡ None)
+
+-- the frame has the TCP layer
+abbrev pub IsTcp : List ℕ → Type 0
+IsTcp frame = (t : Layer) × (tcp_layer frame ≡ Some t)
+
+-- a frame with these bytes for those from one place to another
+abbrev pub with_part : ℕ → ℕ → List ℕ → List ℕ → List ℕ
+with_part start end part frame = take start frame ++ (part ++ drop end frame)

@@ -21,7 +21,7 @@ mod words;
 
 pub use laws::{parse_finds_layers, transport_edits_keep_right};
 pub use matching::Match;
-pub use places::{Places, Transport, read_places};
+pub use places::{Places, Transport, has_tcp, read_places};
 pub use tcp::Tcp;
 pub use tcp_header::{
     TcpMut, TcpView, set_tcp_destination_port, set_tcp_source_port, tcp_acknowledgement,

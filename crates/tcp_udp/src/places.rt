@@ -1,7 +1,7 @@
 //! Where the headers of a frame with ports stand.
 
-ghost use Rattle.std.specs.Prelude.{◌≡◌, MatchOption};
-ghost use Rattle.tcp_udp.specs.PlacesIn.{ArePlaces, HasNoPorts};
+ghost use Rattle.std.specs.Prelude.{◌≡◌, ◌↔◌, IsTrue, MatchOption};
+ghost use Rattle.tcp_udp.specs.PlacesIn.{ArePlaces, HasNoPorts, IsTcp};
 
 use crate::datagram::read_datagram;
 use crate::tcp::Tcp;
@@ -54,4 +54,17 @@ pub fn read_places(frame: &[u8]) -> Option<Places>
         payload: header + length,
         end: header + end,
     })
+}
+
+/// Whether a frame has the TCP layer.
+pub fn has_tcp(frame: &[u8]) -> bool
+    ensures { IsTrue result ↔ IsTcp frame.now }
+{
+    match read_places(frame) {
+        Some(places) => match places.transport {
+            Transport::Tcp => true,
+            Transport::Udp => false,
+        },
+        None => false,
+    }
 }

@@ -1,4 +1,4 @@
--- the classes so far, and what was seen of the frames so far
+-- the classes so far, and what is known by the frames so far
 use Rattle.std.specs.Option.{option_map}
 use Rattle.flow_key.specs.View.{plan_view}
 use Rattle.flow_key.specs.Frames.{frames_of}

@@ -1,5 +1,5 @@
 -- The one flow with the rank, or none.
-use Rattle.std.proofs.Common.{ℕ, Some, None, ◌≡◌, ◌≤◌, ◌<◌, sym, ap, ◌∙◌, length, get_or, map, arith, true, false, refl}
+use Rattle.std.proofs.Common.{Some, None, ◌<◌, sym, ap, ◌∙◌, length, get_or, map, arith, refl}
 use Rattle.std.proofs.lemmas.List.{length-map}
 use Rattle.std.proofs.lemmas.Option.{slice_get-get_or, same_Some, none-some}
 use Rattle.brick_spec.specs.FlowClass as spec
@@ -18,15 +18,21 @@ bounds-flows-number c =
 
 pub returns-then-is_reply-clause-reply : goal.returns-then-is_reply-clause-reply
 returns-then-is_reply-clause-reply c =
+    let there = (c.requires.here c.in-Some.rank _ (slice_get-get_or c.args.ranks.now c.in-Some.rank 0 c.if-rank-ranks.false)).0 in
+    let same = length-map c.args.flows.now opened_view in
+    let within : get_or c.args.ranks.now c.in-Some.rank 0 < length c.args.flows.now = omega arith in
     let test = spec.is_reply (plan_view c.args.plan.now) (tuple_view c.args.tuple.now) in
     sym (one_flow test (Some c.in-Some.rank) c.in-Some.ensures (map opened_view c.args.flows.now) c.args.ranks.now c.requires
-    c.in-Some.rank _ refl (slice_get-get_or c.args.ranks.now c.in-Some.rank 0 c.if-rank-ranks.false) (ap test (flow_viewed c.args.flows.now _) ∙ sym c.if-is_reply.ensures))
+    c.in-Some.rank _ refl (slice_get-get_or c.args.ranks.now c.in-Some.rank 0 c.if-rank-ranks.false) (ap test (flow_viewed c.args.flows.now _ c.index-flows-number.result c.index-flows-number.is within) ∙ sym c.if-is_reply.ensures))
 
 pub returns-else-is_reply-clause-reply : goal.returns-else-is_reply-clause-reply
 returns-else-is_reply-clause-reply c =
+    let there = (c.requires.here c.in-Some.rank _ (slice_get-get_or c.args.ranks.now c.in-Some.rank 0 c.if-rank-ranks.false)).0 in
+    let same = length-map c.args.flows.now opened_view in
+    let within : get_or c.args.ranks.now c.in-Some.rank 0 < length c.args.flows.now = omega arith in
     let test = spec.is_reply (plan_view c.args.plan.now) (tuple_view c.args.tuple.now) in
     sym (failed_flow test (Some c.in-Some.rank) c.in-Some.ensures (map opened_view c.args.flows.now) c.args.ranks.now c.requires
-    c.in-Some.rank _ refl (slice_get-get_or c.args.ranks.now c.in-Some.rank 0 c.if-rank-ranks.false) (ap test (flow_viewed c.args.flows.now _) ∙ sym c.if-is_reply.ensures))
+    c.in-Some.rank _ refl (slice_get-get_or c.args.ranks.now c.in-Some.rank 0 c.if-rank-ranks.false) (ap test (flow_viewed c.args.flows.now _ c.index-flows-number.result c.index-flows-number.is within) ∙ sym c.if-is_reply.ensures))
 
 pub returns-then-rank-ranks-clause-reply : goal.returns-then-rank-ranks-clause-reply
 returns-then-rank-ranks-clause-reply c =
@@ -37,3 +43,9 @@ pub returns-in-None-clause-reply : goal.returns-in-None-clause-reply
 returns-in-None-clause-reply c =
     sym (no_flow (spec.is_reply (plan_view c.args.plan.now) (tuple_view c.args.tuple.now)) None c.in-None.ensures (map opened_view c.args.flows.now) c.args.ranks.now c.requires
     (λ r e. absurd (none-some r e)) (reply_has_rank (plan_view c.args.plan.now) (tuple_view c.args.tuple.now)))
+
+pub returns-then-is_reply-clause-within : goal.returns-then-is_reply-clause-within
+returns-then-is_reply-clause-within c =
+    let there = (c.requires.here c.in-Some.rank _ (slice_get-get_or c.args.ranks.now c.in-Some.rank 0 c.if-rank-ranks.false)).0 in
+    let same = length-map c.args.flows.now opened_view in
+    omega arith
