@@ -1,76 +1,98 @@
 //! The balance of flows over backends.
 
-ghost use Rattle.std.specs.Prelude.{◌≡◌, ◌<◌, ℕ, Ok, false, length, vec_len};
-ghost use Rattle.brick_spec.specs.Balance.{backend_in};
-ghost use Rattle.brick_base.specs.Flow.{flow_of};
-ghost use Rattle.packet_owner.specs.Packet.{packet_item};
-ghost use Rattle.batch_ops.specs.Operator.{work_item};
-ghost use Rattle.batch_ops.specs.Outlet.{buffer_of};
-ghost use Rattle.batch_ops.specs.Stage.{StageStands};
-ghost use Rattle.flow_stages.specs.Balancing.{backend_mac, balanced, balance_stage};
+ghost use Rattle.std.specs.Prelude.{◌≡◌, ◌≤◌, map, length, refl, IfOk};
+ghost use Rattle.std.specs.List.{AllByRecursion};
+ghost use Rattle.brick_spec.specs.Flow.{Flow};
+ghost use Rattle.flow_spec.specs.Balancing.{balance_stage};
+ghost use Rattle.batch_ops.specs.Treat.{as_operator, keeps_nothing};
+ghost use Rattle.chain_types.specs.StageView.{backends_view, change_view};
+ghost use Rattle.flow_stages.specs.EpochMacs.{HasMacs, flow_mac, balance_by};
+ghost use Rattle.flow_stages.specs.Rows.{AreFew, change_few};
 
 use crate::addresses::send_to;
-use batch_ops::{Operator, Outlet};
-use brick_base::{Class, NoMemory, Raw};
-use lb_maglev::Maglev;
+use crate::backends::{addresses_of, epochs_of};
+use batch_ops::{Dropped, Operator, Outlet, Treat};
+use brick_base::{Class, NoMemory, Raw, Reason};
+use chain_types::{Backend, Change};
+use eth_ip::Ip4;
+use lb_maglev::Epochs;
 use packet_owner::Packet;
-use tcp_udp::Tuple;
+use read_row::{TreatRead, treat_packet};
+use std::alloc::Global;
 
-/// Sends each flow to the backend that a balance table has for the hash of its key.
+/// Sends each flow to the backend that the balance table of its epoch has for the hash of its key: the epoch in which it was opened.
 #[derive(Drop)]
 pub struct BalanceStage {
     /// Which backend a flow goes to.
-    pub table: Maglev,
-    /// The backends' Ethernet addresses, by their numbers in the table.
-    pub macs: Vec<[u8; 6]>,
+    pub epochs: Epochs,
+    /// The backends' Ethernet addresses, epoch by epoch, by their numbers in the table.
+    pub macs: Vec<Vec<[u8; 6]>>,
     // each backend has one
-    ghost each: { (hash : ℕ) → backend_in table hash < vec_len macs },
+    pub ghost each: { HasMacs epochs macs.items },
 }
 
 impl BalanceStage {
-    /// The stage of a table, with the Ethernet address of each of its backends.
-    pub fn new(table: Maglev, macs: Vec<[u8; 6]>) -> BalanceStage
-        requires { (hash : ℕ) → backend_in table hash < length macs.items }
-        ensures table { result.table ≡ table }
-        ensures macs { result.macs ≡ macs }
+    /// The stage of 1 to 64 backends with distinct names, and of at most 15 changes of them, each to as many.
+    pub fn new(
+        alloc: Global,
+        backends: &[Backend],
+        changes: &[Change],
+    ) -> Result<BalanceStage, NoMemory>
+        requires first { AreFew backends.now }
+        requires later { AllByRecursion change_few changes.now }
+        requires few { length changes.now ≤ 15 }
+        ensures { IfOk result (λ s. (flow : Flow) → balance_by s.epochs s.macs.items flow ≡ balance_stage (backends_view backends.now) (map change_view changes.now) flow) }
     {
-        BalanceStage { table, macs }
+        let rows = epochs_of(alloc, backends, changes)?;
+        let macs = addresses_of(alloc, backends, changes)?;
+        let epochs = Epochs::build(alloc, rows)?;
+        Ok(BalanceStage { epochs, macs })
     }
 
-    /// The Ethernet address of the backend of a flow's hash.
-    fn mac_for(&self, hash: u64) -> [u8; 6]
-        ensures { result ≡ backend_mac self.now.table self.now.macs.items hash }
+    /// The Ethernet address of the backend of a flow, by the number of its first record and by its hash.
+    fn mac_for(&self, opened: u32, hash: u64) -> [u8; 6]
+        ensures { result ≡ flow_mac self.now.epochs self.now.macs.items opened hash }
     {
-        self.macs[self.table.backend(hash) as usize]
-    }
-
-    /// Sends a packet to the backend of its flow, in its own buffer.
-    fn balance(&self, class: &Class, packet: Packet<Raw>) -> Packet<Raw>
-        ensures item { balanced self.now.table self.now.macs.items (flow_of class.now) (work_item class.now packet) ≡ Ok (packet_item result) }
-        ensures buffer { buffer_of result ≡ buffer_of packet }
-    {
-        if Tuple::read(packet.payload()).is_none() {
-            return packet;
-        }
-        send_to(packet, self.mac_for(class.hash))
+        let (epoch, backend) = self.epochs.backend(opened, hash);
+        self.macs[epoch as usize][backend as usize]
     }
 }
 
+impl TreatRead for BalanceStage {
+    ghost kind = { keeps_nothing (λ s flow. balance_by s.epochs s.macs.items flow) };
+
+    fn treat_read(
+        &mut self,
+        class: &Class,
+        packet: &mut Packet<Ip4>,
+    ) -> Result<(), Option<Reason>> {
+        send_to(packet, self.mac_for(class.opened, class.hash));
+        Ok(())
+    }
+
+    fn treat_other(&mut self, _class: &Class, _packet: &Packet<Raw>) -> Result<(), Option<Reason>> {
+        Ok(())
+    }
+
+    ghost no_rest = { λ _ _ _ _. refl };
+}
+
+impl Treat for BalanceStage {
+    ghost kind = { ⟦<BalanceStage as TreatRead>⟧.kind };
+
+    fn treat(&mut self, class: &Class, packet: Packet<Raw>) -> Result<Packet<Raw>, Dropped> {
+        treat_packet(self, class, packet)
+    }
+
+    ghost no_rest = { λ _ _ _ _. refl };
+}
+
 impl Operator for BalanceStage {
-    ghost stands = { λ s flow came left. StageStands (balance_stage s.table s.macs.items flow) came left };
-
-    ghost ready = { λ _. Unit {0} };
-
-    ghost failed = { λ _. false };
-
-    ghost spares = { λ _. 0 };
-
-    ghost least_room = { λ _. 0 };
+    ghost meaning = { as_operator ⟦<BalanceStage as Treat>⟧.kind };
 
     fn step(&mut self, class: &Class, p: Packet<Raw>, out: &mut Outlet) -> Result<(), NoMemory> {
-        let packet = self.balance(class, p);
-        out.pass(class.dir, packet);
-        Ok(())
+        let treated = self.treat(class, p);
+        out.settle(class.dir, treated)
     }
 
     fn end(&mut self, _class: &Class, _records: u32, _out: &mut Outlet) -> Result<(), NoMemory> {
