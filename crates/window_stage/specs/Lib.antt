@@ -1,0 +1,10 @@
+pub mod Fields
+pub mod Emission
+pub mod Own
+pub mod HalfFlow
+pub mod HalfFlows
+pub mod StageState
+pub mod StageMeaning
+pub mod MeaningLaw
+pub mod Keys
+pub mod StreamLaw

@@ -1,0 +1,110 @@
+//! One direction of all flows.
+
+ghost use Rattle.std.specs.Prelude.{ℕ, ◌≡◌, ◌≤◌, Some};
+ghost use Rattle.std.specs.Ordering.{nat_cmp};
+ghost use Rattle.std.specs.BTreeMap.{get};
+ghost use Rattle.window_stage.specs.declared.half_flow.HalfFlow.{HalfFlow};
+
+use crate::fields::SegmentFields;
+use crate::half_flow::HalfFlow;
+use batch_ops::Outlet;
+use brick_base::{Dir, NoMemory, Raw};
+use packet_owner::Packet;
+use std::alloc::Global;
+use std::collections::BTreeMap;
+
+/// What is kept of one direction of each flow, by the flow's number: nothing where no TCP segment came.
+#[derive(Drop)]
+pub(crate) struct HalfFlows {
+    pub(crate) alloc: Global,
+    pub(crate) size: u32,
+    pub(crate) reach: u32,
+    pub(crate) halves: BTreeMap<u32, HalfFlow>,
+    pub ghost windows: { (64 ≤ size) × (size ≤ 1460) },
+    pub ghost within: { (1460 ≤ reach) × (reach ≤ 1048576) },
+    // each is of this size and reach
+    pub ghost kinds: { (q : ℕ) (w : HalfFlow) → get nat_cmp halves q ≡ Some w → (w.size ≡ size) × (w.stream.reach ≡ reach) },
+}
+
+impl HalfFlows {
+    ghost use Rattle.std.specs.Prelude.{ℕ, ◌≡◌, ◌+◌, ◌/◌, ◌<◌, ◌≤◌, [], ◌∷◌, ◌++◌, List, length, vec_len, vec_capacity, Some, None, IsSome, IfOk, OnOk};
+    ghost use Rattle.std.specs.Ordering.{nat_cmp};
+    ghost use Rattle.std.specs.BTreeMap.{get};
+    ghost use Rattle.brick_spec.specs.Flow.{Direction};
+    ghost use Rattle.brick_spec.specs.FlowStage.{FlowItem};
+    ghost use Rattle.brick_base.specs.Flow.{dir_view};
+    ghost use Rattle.batch_ops.specs.Outlet.{HasRoom};
+    ghost use Rattle.flow_spec.specs.Window.{rest_in};
+    ghost use Rattle.window_stage.specs.Fields.{HasFields};
+    ghost use Rattle.window_stage.specs.Emission.{Emitted};
+    ghost use Rattle.window_stage.specs.HalfFlows.{HalfFlowsFit, HalfFlowsStepped, OthersKept, IsSameSize};
+
+    /// A direction of which nothing is kept.
+    pub(crate) fn new(alloc: Global, size: u32, reach: u32) -> HalfFlows
+        requires size { (64 ≤ size) × (size ≤ 1460) }
+        requires reach { (1460 ≤ reach) × (reach ≤ 1048576) }
+        ensures same { (result.size ≡ size) × (result.reach ≡ reach) }
+        ensures empty { (q : ℕ) → get nat_cmp result.halves q ≡ None }
+    {
+        HalfFlows {
+            alloc,
+            size,
+            reach,
+            halves: BTreeMap::new(alloc),
+        }
+    }
+
+    /// Something is kept of the flow from now on.
+    fn open(&mut self, flow: u32) -> Result<(), NoMemory>
+        ensures there { OnOk result (IsSome (get nat_cmp self.new.halves flow)) }
+        ensures fits { OnOk result ((dir : Direction) (items : List FlowItem) → HalfFlowsFit dir self.old flow items → HalfFlowsFit dir self.new flow items) }
+        ensures others { OthersKept self.old self.new flow }
+        ensures same { IsSameSize self.old self.new }
+    {
+        if self.halves.contains_key(&flow) {
+            return Ok(());
+        }
+        let half = HalfFlow::new(self.alloc, self.size, self.reach)?;
+        self.halves.insert(flow, half)?;
+        Ok(())
+    }
+
+    /// Handles a packet of the flow with the TCP layer, of which this was read. Without memory it is lost.
+    pub(crate) fn step(
+        &mut self,
+        flow: u32,
+        dir: Dir,
+        fields: SegmentFields,
+        p: Packet<Raw>,
+        out: &mut Outlet,
+    ) -> Result<(), NoMemory>
+        requires fields { HasFields p.frame fields }
+        requires room { HasRoom (self.old.reach / self.old.size + 1 + 1) out.old }
+        requires spare { self.old.reach / self.old.size + 1 ≤ length out.old.spare.free }
+        requires long { 54 + self.old.size ≤ out.old.spare.bytes }
+        ensures { HalfFlowsStepped self.old self.new flow dir p out.old out.new result }
+    {
+        if self.open(flow).is_err() {
+            out.lose(p);
+            return Err(NoMemory);
+        }
+        let Some(half) = self.halves.get_mut(&flow) else {
+            // It is there since the call before.
+            out.lose(p);
+            return Err(NoMemory);
+        };
+        half.step(dir, fields, p, out)
+    }
+
+    /// Passes what is left behind the last window, at the end of the flow, under this key.
+    pub(crate) fn end(&self, flow: u32, dir: Dir, key: (u64, u32), out: &mut Outlet)
+        requires room { vec_len out.old.passed < vec_capacity out.old.passed }
+        requires spare { 0 < length out.old.spare.free }
+        requires long { 54 + self.now.size ≤ out.old.spare.bytes }
+        ensures { Emitted 1 key.1 (λ xs. (items : List FlowItem) → HalfFlowsFit (dir_view dir) self.now flow items → xs ≡ rest_in self.now.size self.now.reach (dir_view dir) key.0 key.1 items) out.old out.new }
+    {
+        if let Some(half) = self.halves.get(&flow) {
+            half.end(dir, key, out);
+        }
+    }
+}
