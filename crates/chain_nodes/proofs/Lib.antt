@@ -1,0 +1,11 @@
+pub mod Settles
+pub mod Desks
+pub mod Waits
+pub mod Piped
+pub mod Fanned
+pub mod Worked
+pub mod Ends
+pub mod News
+pub mod Plans
+pub mod Runs
+pub mod NoRows

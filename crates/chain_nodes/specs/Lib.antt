@@ -1,0 +1,11 @@
+pub mod Desk
+pub mod Node
+pub mod NodeLaws
+pub mod Fan
+pub mod Either
+pub mod Flows
+pub mod Work
+pub mod Answers
+pub mod PlanOf
+pub mod Run
+pub mod NewNodes

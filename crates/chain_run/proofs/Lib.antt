@@ -1,0 +1,8 @@
+mod StagePaths
+mod Plains
+mod Store
+mod Checked
+mod Grown
+mod Ways
+mod Leaves
+mod Chains

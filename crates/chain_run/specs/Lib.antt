@@ -1,0 +1,4 @@
+pub mod Sound
+pub mod Tree
+pub mod Built
+pub mod Plain

@@ -1,0 +1,22 @@
+//! A tenant's work: its chain as places, which are its stages, its groups, and groups in these.
+#![tactic(auto)]
+
+mod below;
+mod check;
+mod groups;
+mod need;
+mod path;
+mod paths;
+mod plain;
+mod root;
+mod sent;
+mod tree_work;
+
+pub use below::{LeafPlace, build_leaf};
+pub use check::is_chain_served;
+pub use groups::{GroupPlace, build_group};
+pub use path::{ChainPath, TenantWork};
+pub use paths::{Site, StagesPath};
+pub use root::{RootPlace, build_root};
+pub use tree_work::TreeWork;
+pub use work_core::{ChainWork, NewWork, Returned, WorkResult, join_outputs};

@@ -1,0 +1,5 @@
+pub mod Meaning
+pub mod Node
+pub mod Log
+pub mod Buffers
+pub mod Keys

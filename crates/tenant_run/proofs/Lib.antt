@@ -1,0 +1,5 @@
+mod Counts
+mod InOrder
+mod Leaves
+mod Turning
+mod Making

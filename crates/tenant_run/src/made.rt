@@ -1,0 +1,69 @@
+ghost use Rattle.std.specs.Prelude.{◌≡◌, ℕ, List, [], IfOk};
+ghost use Rattle.flow_spec.specs.Answer as flows;
+ghost use Rattle.flow_spec.specs.Answer.{ClassedItem};
+ghost use Rattle.flow_spec.specs.Plan.{Plan};
+ghost use Rattle.chain_types.specs.View.{chain_view};
+ghost use Rattle.tenant_run.specs.Made.{IsMade};
+
+use crate::records::{Counts, take_record};
+use crate::tally::with_big;
+use crate::turns::{Turns, take_turn};
+use batch_ops::Batch;
+use brick_base::NoMemory;
+use chain_types::Chain;
+use flow_key::classify_all;
+use pcap_io::{Capture, Items};
+use std::alloc::Global;
+use work_core::{NewWork, chains_own_keys, join_outputs};
+
+/// What a chain makes of a capture.
+#[derive(Drop)]
+pub struct TenantMade {
+    /// How many records were accepted.
+    pub accepted: u32,
+    /// How many records and items were dropped, in the order of the reasons.
+    pub drops: [u32; 9],
+    /// The items of each output, in the order of their keys.
+    pub outputs: Vec<Items>,
+}
+
+/// A law of each work: it answers what the plan means.
+fn answers_mean<W: NewWork>()
+    ensures { (p : Plan) (list : List ClassedItem) (n : ℕ) → W.ChainWork.answer p list n ≡ flows.answer p list n }
+{}
+
+/// What the chain makes of the capture, where no record is refused. All records are classified, also those that are longer than the
+/// chain's buffers; the others pass through one work, in the order of the capture.
+pub fn make_tenant<W: NewWork>(
+    alloc: Global,
+    chain: &Chain,
+    capture: &Capture,
+) -> Result<TenantMade, NoMemory>
+    ensures { IfOk result (IsMade (chain_view chain.now) [] capture.now) }
+{
+    let classes = classify_all(alloc, chain.nat, capture)?;
+    let work: W = W::of_chain(alloc, chain)?;
+    let mut turns = Turns {
+        work,
+        batch: Batch::new(),
+        ready: Vec::new(alloc),
+    };
+    let mut counts = Counts {
+        accepted: 0,
+        big: 0,
+    };
+    for k in 0..capture.count() {
+        take_record(alloc, chain, capture, &classes, k, &mut turns, &mut counts)?;
+    }
+    take_turn(alloc, &mut turns)?;
+    chains_own_keys();
+    answers_mean::<W>();
+    let mut work = turns.work;
+    work.end(alloc, capture.count());
+    let result = work.take_results(alloc)?;
+    Ok(TenantMade {
+        accepted: counts.accepted,
+        drops: with_big(result.drops, counts.big)?,
+        outputs: join_outputs(alloc, chain, result.groups)?,
+    })
+}

@@ -1,0 +1,4 @@
+mod ChainKeys
+mod Places
+mod Shares
+mod Viewed
