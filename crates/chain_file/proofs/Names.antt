@@ -1,67 +1,31 @@
--- Lists of names of which none stands twice, the outputs of groups, and the first name that is taken.
-use Rattle.std.proofs.Common.{◌≡◌, ◌∙◌, ◌<◌, ◌≤◌, ◌+◌, Bool, true, false, not, ◌&&◌, cond, ℕ, List, [], ◌∷◌, ◌++◌, length, drop, get_or, map, Option, Some, None, is_some, refl, ap, sym, append_assoc, append-nil, arith}
-use Rattle.std.proofs.lemmas.Bool.{and_parts}
-use Rattle.std.proofs.lemmas.List.{drop_more, length-append}
-use Rattle.chain_spec.specs.ChainSet.{is_among, with_name, distinct_after, are_new, are_distinct, file_names, run_files}
+-- The outputs of one more group, and the first name that is taken.
+use Rattle.std.proofs.Common.{◌≡◌, ◌∙◌, ◌<◌, ◌+◌, Bool, true, false, cond, ℕ, List, [], ◌∷◌, ◌++◌, length, drop, get_or, map, flat_map, Option, Some, None, is_some, refl, ap, sym}
+use Rattle.std.proofs.lemmas.List.{drop_more}
+use Rattle.chain_spec.specs.ChainSet.{is_among, distinct_after, outputs_below, file_names, run_files}
 use Rattle.chain_spec.specs.ChainWalk.{first_taken}
-use Rattle.chain_file.specs.declared.chain.Chain.{Chain}
+use Rattle.chain_spec.proofs.Outputs.{after_append}
+use Rattle.chain_types.specs.View.{chain_view}
+use Rattle.chain_types.specs.declared.chain.Chain.{Chain}
+use Rattle.chain_file.specs.NamedView.{named_below_view}
+use Rattle.chain_file.specs.View.{named_view}
 use Rattle.chain_file.specs.declared.named.NamedGroup.{NamedGroup}
-use Rattle.chain_file.specs.View.{named_view, chain_view}
 
 abbrev Names : Type 0
 Names = List (List ℕ)
-
--- ONE MORE NAME
-
-both : (a b : Bool) → a ≡ true → b ≡ true → (a && b) ≡ true
-both a b h k = rw (h, k) refl
-
-not_false : (a : Bool) → a ≡ false → not a ≡ true
-not_false a h = rw h refl
-
-new_push : (before ns : Names) (n : List ℕ) → are_new before ns ≡ true → is_among n (before ++ ns) ≡ false → are_new before (ns ++ n ∷ []) ≡ true
-new_push before [] n h fresh = both _ true (not_false _ (ap (is_among n) (sym (append-nil before)) ∙ fresh)) refl
-new_push before (x ∷ xs) n h fresh =
-    let parts = and_parts (not (is_among x before)) (are_new (before ++ x ∷ []) xs) h in
-    both _ _ parts.0 (new_push (before ++ x ∷ []) xs n parts.1 (ap (is_among n) (append_assoc before (x ∷ []) xs) ∙ fresh))
-
-pub distinct_push : (ns : Names) (n : List ℕ) → are_distinct ns ≡ true → is_among n ns ≡ false → are_distinct (ns ++ n ∷ []) ≡ true
-distinct_push ns n h fresh = new_push [] ns n h fresh
-
--- by whether it is among them
-cases : (b : Bool) (P : Bool → Type 0) → (b ≡ true → P true) → (b ≡ false → P false) → P b
-cases true P f g = f refl
-cases false P f g = g refl
-
-pub with_distinct : (ns : Names) (n : List ℕ) → are_distinct ns ≡ true → are_distinct (with_name ns n) ≡ true
-with_distinct ns n h =
-    cases (is_among n ns) (λ b. are_distinct (cond b ns (ns ++ n ∷ [])) ≡ true) (λ _. h) (λ fresh. distinct_push ns n h fresh)
-
-some_among : (n : List ℕ) (ns : Names) → is_among n ns ≡ true → 0 < length ns
-some_among n [] h = cc
-some_among n (x ∷ xs) h = omega arith
-
-pub with_some : (ns : Names) (n : List ℕ) → 0 < length (with_name ns n)
-with_some ns n =
-    cases (is_among n ns) (λ b. 0 < length (cond b ns (ns ++ n ∷ []))) (λ among. some_among n ns among) (λ _. omega (arith, length-append ns (n ∷ [])))
-
-pub with_few : (ns : Names) (n : List ℕ) → length (with_name ns n) ≤ length ns + 1
-with_few ns n =
-    cases (is_among n ns) (λ b. length (cond b ns (ns ++ n ∷ [])) ≤ length ns + 1) (λ _. omega arith) (λ _. omega (arith, length-append ns (n ∷ [])))
-
--- ONE TURN OF A LOOP
 
 dropped : {X : Type 0} (xs : List X) (i : ℕ) (x : X) → i < length xs → x ≡ get_or xs i x → drop i xs ≡ x ∷ drop (i + 1) xs
 dropped xs i x lt at = drop_more xs i x lt ∙ ap (λ y. y ∷ drop (i + 1) xs) (sym at)
 
 -- the outputs after one more group
 pub outputs_step : (before after : Names) (groups : List NamedGroup) (i : ℕ) (g : NamedGroup) (all : Names) → i < length groups → g ≡ get_or groups i g
-    → after ≡ with_name before g.into
-    → distinct_after before (map (λ x. x.into) (map named_view (drop i groups))) ≡ all
-    → distinct_after after (map (λ x. x.into) (map named_view (drop (i + 1) groups))) ≡ all
+    → after ≡ distinct_after before (outputs_below (named_below_view g.below))
+    → distinct_after before (flat_map (λ x. outputs_below x.below) (map named_view (drop i groups))) ≡ all
+    → distinct_after after (flat_map (λ x. outputs_below x.below) (map named_view (drop (i + 1) groups))) ≡ all
 outputs_step before after groups i g all lt at e same =
-    ap (λ (ns : Names). distinct_after ns (map (λ x. x.into) (map named_view (drop (i + 1) groups)))) e
-    ∙ sym (ap (λ (gs : List NamedGroup). distinct_after before (map (λ x. x.into) (map named_view gs))) (dropped groups i g lt at)) ∙ same
+    let rest = flat_map (λ x. outputs_below x.below) (map named_view (drop (i + 1) groups)) in
+    ap (λ (ns : Names). distinct_after ns rest) e
+    ∙ sym (after_append before (outputs_below (named_below_view g.below)) rest)
+    ∙ sym (ap (λ (gs : List NamedGroup). distinct_after before (flat_map (λ x. outputs_below x.below) (map named_view gs))) (dropped groups i g lt at)) ∙ same
 
 -- THE FIRST NAME THAT IS TAKEN
 

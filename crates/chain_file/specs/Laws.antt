@@ -1,8 +1,9 @@
 -- Some chain files and what they give, and the lines of faults.
 use Rattle.std.specs.Prelude.{◌≡◌, ◌<◌, ℕ, true, List, [], ◌∷◌, ◌++◌, length, Some, None, Result, Ok, Err, is_ok, codes}
 use Rattle.std.specs.List.{repeat}
-use Rattle.chain_spec.specs.ChainFault.{ChainFault, NotToml, Missing, Unknown, Range, Name, TooManyTenants, Collides, TooLong, fault_text}
-use Rattle.chain_spec.specs.ChainSet.{Chain, DryWait, UnparsedPass, UnparsedDrop, Ttl, SetTos, Only}
+use Rattle.brick_spec.specs.Route.{SamePrefix, HostBits}
+use Rattle.chain_spec.specs.ChainFault.{ChainFault, NotToml, Missing, Unknown, Range, Name, SecondWindow, Route, TooManyTenants, Collides, TooLong, fault_text}
+use Rattle.chain_spec.specs.ChainSet.{Chain, DryWait, UnparsedPass, UnparsedDrop, Ttl, SetTos, Only, Output}
 use Rattle.chain_spec.specs.ChainWalk.{longest_chain_file, read_chains}
 
 -- what a chain file `c.toml` gives for the folder `out`
@@ -24,6 +25,10 @@ matched prefix = with_line (codes "stages = [{ stage = \"only\", match = { src =
 -- a tenant with a list of stages
 abbrev staged : List ℕ → List ℕ
 staged stages = with_line (codes "stages = [" ++ (stages ++ codes "]"))
+
+-- a tenant with a table of routes
+abbrev routed : List ℕ → List ℕ
+routed rows = staged (codes "{ stage = \"route\", mac = \"00:00:00:00:00:00\", route = [" ++ (rows ++ codes "] }"))
 
 -- a tenant of these texts
 abbrev tenant_of : List ℕ → List ℕ → List ℕ → List ℕ
@@ -48,8 +53,9 @@ pub record Samples : Type 0 where
         bytes = 1514;
         dry = DryWait;
         unparsed = UnparsedDrop;
+        nat = None;
         stages = Ttl ∷ SetTos 8 ∷ Only (record { proto = Some 17; src = None; dst = Some (record { addr = 167772160; bits = 8 }); sport = None; dport = Some 53; port = None }) ∷ [];
-        groups = record { name = codes "dns"; wanted = None; stages = []; output = 0 } ∷ [];
+        groups = record { name = codes "dns"; wanted = None; stages = []; below = Output 0 } ∷ [];
         outputs = codes "dns" ∷ [];
       } ∷ [])
   pub defaults : read (codes "version = 1\n[[tenant]]\nname = \"a\"\ncapture = \"in.pcap\"\ngroup = [{ name = \"all\" }]\n")
@@ -60,8 +66,9 @@ pub record Samples : Type 0 where
         bytes = 65600;
         dry = DryWait;
         unparsed = UnparsedPass;
+        nat = None;
         stages = [];
-        groups = record { name = codes "all"; wanted = None; stages = []; output = 0 } ∷ [];
+        groups = record { name = codes "all"; wanted = None; stages = []; below = Output 0 } ∷ [];
         outputs = codes "all" ∷ [];
       } ∷ [])
   pub empty : read [] ≡ Err (Missing 0 (codes "version"))
@@ -84,16 +91,23 @@ pub record Samples : Type 0 where
   pub host_bit : read (matched (codes "10.0.0.1/8")) ≡ Err (Range 1 (codes "src"))
   pub many_bits : read (matched (codes "10.0.0.0/33")) ≡ Err (Range 1 (codes "src"))
   pub large_part : read (matched (codes "10.0.0.256/32")) ≡ Err (Range 1 (codes "src"))
-  pub other_stage : read (with_line (codes "stages = [{ stage = \"nat\" }]")) ≡ Err (Range 1 (codes "stage"))
-  pub two_tenants : read (codes "version = 1\ntenant = [{}, {}]\n") ≡ Err (TooManyTenants 2)
+  pub other_stage : read (with_line (codes "stages = [{ stage = \"scan\", find = \"a\" }]")) ≡ Err (Range 1 (codes "stage"))
+  pub many_tenants : read (codes "version = 1\ntenant = [" ++ (repeat 17 (codes "{},") ++ codes "]\n")) ≡ Err (TooManyTenants 17)
   pub no_tenant : read (codes "version = 1\ntenant = []\n") ≡ Err (Range 0 (codes "tenant"))
   pub no_table : read (codes "version = 1\ntenant = [1]\n") ≡ Err (Range 0 (codes "tenant"))
   pub no_group : read (codes "version = 1\n[[tenant]]\nname = \"a\"\ncapture = \"in.pcap\"\n") ≡ Err (Missing 1 (codes "group"))
-  pub two_groups : read (with_line (codes "[[tenant.group]]\nname = \"dns\"")) ≡ Err (Range 1 (codes "group"))
-  pub group_match : read (with_line [] ++ codes "match = {}\n") ≡ Err (Unknown 1 (codes "match"))
-  pub group_stages : read (with_line [] ++ codes "stages = []\n") ≡ Err (Unknown 1 (codes "stages"))
-  pub group_into : read (with_line [] ++ codes "into = \"web\"\n") ≡ Err (Unknown 1 (codes "into"))
-  pub translation : read (with_line (codes "nat = {}")) ≡ Err (Unknown 1 (codes "nat"))
+  pub two_groups : Accepted (with_line (codes "[[tenant.group]]\nname = \"dns\""))
+  pub same_group : read (with_line (codes "[[tenant.group]]\nname = \"web\"")) ≡ Err (Name 1)
+  pub group_key : read (with_line [] ++ codes "zebra = 1\n") ≡ Err (Unknown 1 (codes "zebra"))
+  pub group_into : read (with_line [] ++ codes "into = \"Web\"\n") ≡ Err (Name 1)
+  pub translation : read (with_line (codes "nat = {}")) ≡ Err (Missing 1 (codes "inside"))
+  pub no_plan : read (staged (codes "{ stage = \"nat\" }, { stage = \"window\", size = 64 }, { stage = \"window\", size = 64 }")) ≡ Err (Missing 1 (codes "nat"))
+  pub two_windows : read (staged (codes "{ stage = \"window\", size = 64 }, { stage = \"window\", size = 64 }")) ≡ Err (SecondWindow 1)
+  pub window_behind : read (staged (codes "{ stage = \"window\", size = 64 }") ++ codes "stages = [{ stage = \"window\", size = 64 }]\n") ≡ Err (SecondWindow 1)
+  pub inner_group : read (with_line [] ++ codes "group = []\n") ≡ Err (Unknown 1 (codes "group"))
+  pub same_prefix : read (routed (codes "{ to = \"10.0.0.0/8\", via = \"00:00:00:00:00:01\" }, { to = \"10.0.0.0/8\", via = \"00:00:00:00:00:02\" }")) ≡ Err (Route 1 (SamePrefix 0 1))
+  pub host_bits : read (routed (codes "{ to = \"10.0.0.1/8\", via = \"00:00:00:00:00:01\" }")) ≡ Err (Route 1 (HostBits 0))
+  pub same_backend : read (staged (codes "{ stage = \"balance\", backend = [{ name = \"b\", mac = \"00:00:00:00:00:01\" }, { name = \"b\", mac = \"00:00:00:00:00:02\" }] }")) ≡ Err (Name 1)
 
 -- the ends of ranges
 pub record Ends : Type 0 where
@@ -132,7 +146,7 @@ pub record Order : Type 0 where
   pub first_missing : read (codes "version = 1\n[[tenant]]\n") ≡ Err (Missing 1 (codes "name"))
   pub value_before_next_key : read (named (codes "1\n")) ≡ Err (Range 1 (codes "name"))
   pub top_key_before_tenants : read (codes "version = 1\nzebra = 1\ntenant = [{}, {}]\n") ≡ Err (Unknown 0 (codes "zebra"))
-  pub count_before_members : read (codes "version = 1\ntenant = [1, 1]\n") ≡ Err (TooManyTenants 2)
+  pub count_before_members : read (codes "version = 1\ntenant = [" ++ (repeat 17 (codes "1,") ++ codes "]\n")) ≡ Err (TooManyTenants 17)
   pub member_by_member : read (staged (codes "{ stage = \"ttl\", mule = 1 }, 1")) ≡ Err (Unknown 1 (codes "mule"))
   pub member : read (staged (codes "1")) ≡ Err (Range 1 (codes "stages"))
   pub stage_before_keys : read (staged (codes "{ value = 8 }")) ≡ Err (Missing 1 (codes "stage"))
@@ -156,6 +170,9 @@ pub record Texts : Type 0 where
   pub unknown : fault_text (Unknown 1 (codes "zebra")) ≡ codes "chains: 3 Unknown place=1 key=zebra\n"
   pub range : fault_text (Range 1 (codes "bytes")) ≡ codes "chains: 4 Range place=1 key=bytes\n"
   pub name : fault_text (Name 16) ≡ codes "chains: 5 Name place=16\n"
+  pub second_window : fault_text (SecondWindow 2) ≡ codes "chains: 6 SecondWindow place=2\n"
+  pub same_prefix : fault_text (Route 1 (SamePrefix 0 1)) ≡ codes "chains: 7 Route place=1 SamePrefix first=0 second=1\n"
+  pub host_bits : fault_text (Route 1 (HostBits 0)) ≡ codes "chains: 7 Route place=1 HostBits row=0\n"
   pub too_many_tenants : fault_text (TooManyTenants 17) ≡ codes "chains: 8 TooManyTenants count=17\n"
   pub collides : fault_text (Collides (codes "out/a.web.pcap")) ≡ codes "chains: 9 Collides out/a.web.pcap\n"
   pub too_long : fault_text TooLong ≡ codes "chains: 10 TooLong\n"

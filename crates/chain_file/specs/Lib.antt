@@ -1,2 +1,3 @@
+pub mod NamedView
 pub mod View
 pub mod Laws

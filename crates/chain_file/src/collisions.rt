@@ -1,15 +1,16 @@
 //! Files of a run that have the name of the chain file or of a capture.
 
-ghost use Rattle.std.specs.Prelude.{◌≡◌, ◌∷◌, IfOk, IfNone, map};
+ghost use Rattle.std.specs.Prelude.{◌≡◌, ◌∷◌, IfOk, None, OnOk, map};
 ghost use Rattle.chain_spec.specs.ChainSet.{is_among, file_names, run_files};
 ghost use Rattle.chain_spec.specs.ChainWalk as spec;
 ghost use Rattle.chain_text.specs.Gives.{Gives};
-ghost use Rattle.chain_file.specs.View.{chain_view, chain_captures};
+ghost use Rattle.chain_types.specs.View.{chain_view};
+ghost use Rattle.chain_file.specs.View.{chain_captures};
 
-use crate::chain::Chain;
 use crate::files::{output_file, refused_file};
 use brick_base::{Name, NoMemory};
 use chain_text::ChainFault;
+use chain_types::Chain;
 use std::alloc::Global;
 
 fn is_capture(file: &str, chains: &[Chain]) -> bool
@@ -76,7 +77,8 @@ fn first_taken(
 /// No file of the run has the name of the chain file `own` or of a capture.
 #[tactic(auto, unfolding(chain_spec::specs::ChainWalk::apart))]
 pub(crate) fn apart(alloc: Global, own: &str, out: &str, chains: &[Chain]) -> Result<(), ChainFault>
-    ensures { Gives (λ _. tt) result (spec.apart own.now out.now (map chain_view chains.now)) }
+    ensures value { Gives (λ _. tt) result (spec.apart own.now out.now (map chain_view chains.now)) }
+    ensures none { OnOk result (spec.first_taken (own.now ∷ chain_captures chains.now) (run_files out.now (map chain_view chains.now)) ≡ None) }
 {
     match first_taken(alloc, own, out, chains)? {
         Some(name) => Err(ChainFault::Collides { name }),

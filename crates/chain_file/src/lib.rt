@@ -1,25 +1,25 @@
 //! Chain files: the chains that one gives, or its first fault.
 #![tactic(auto)]
 
-mod chain;
+mod below;
 mod collisions;
 mod files;
+mod fits;
 mod groups;
 mod laws;
-mod matches;
+mod leaves;
 mod named;
+mod named_leaf;
 mod outputs;
 mod set;
 mod settings;
-mod stages;
 mod tenants;
 #[cfg(test)]
 mod tests;
 mod words;
 
-pub use chain::{Chain, Dry, Group, Unparsed};
 pub use chain_text::{ChainFault, fault_text};
+pub use chain_types::{Backend, Below, Chain, Change, Dry, Group, Leaf, Stage, Unparsed};
 pub use files::{output_file, refused_file};
 pub use laws::{ends, long_refused, order, samples, texts};
 pub use set::ChainSet;
-pub use stages::Stage;

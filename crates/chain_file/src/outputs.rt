@@ -1,17 +1,20 @@
 //! The outputs of a tenant's groups.
 
-ghost use Rattle.std.specs.Prelude.{◌≡◌, ◌<◌, ◌≤◌, nat_lt, IfOk, IfSome, OnOk, IsTrue, length, map, option_map};
-ghost use Rattle.std.specs.List.{list_all, position};
+ghost use Rattle.std.specs.Prelude.{◌≡◌, ◌<◌, ◌≤◌, IfOk, IfSome, OnOk, length, map, option_map};
+ghost use Rattle.std.specs.List.{position};
 ghost use Rattle.std.specs.Str.{bytes_eq};
 ghost use Rattle.tcp_udp.specs.MatchView.{match_view};
-ghost use Rattle.brick_spec.specs.Name.{is_name};
 ghost use Rattle.chain_spec.specs.ChainSet as spec;
-ghost use Rattle.chain_file.specs.View.{chain_view, named_view, group_view, group_names, settings_view, stages_view};
+ghost use Rattle.chain_types.specs.StageView.{stages_view};
+ghost use Rattle.chain_types.specs.BelowView.{leaf_view, below_view};
+ghost use Rattle.chain_types.specs.GroupView.{group_view};
+ghost use Rattle.chain_file.specs.NamedView.{named_below_view, named_leaves_view};
+ghost use Rattle.chain_file.specs.View.{named_view};
 
-use crate::chain::{Chain, Group};
-use crate::named::{NamedGroup, Settings};
-use crate::stages::Stage;
+use crate::named::NamedGroup;
+use crate::named_leaf::{NamedBelow, NamedLeaf};
 use brick_base::{Name, NoMemory};
+use chain_types::{Below, Group, Leaf};
 use std::alloc::Global;
 
 fn is_among(name: &str, names: &[Name]) -> bool
@@ -35,16 +38,32 @@ fn add_name(alloc: Global, names: &mut Vec<Name>, name: &str) -> Result<(), NoMe
     Ok(())
 }
 
+fn add_leaves(alloc: Global, names: &mut Vec<Name>, leaves: &[NamedLeaf]) -> Result<(), NoMemory>
+    ensures { OnOk result (names.new.items ≡ spec.distinct_after names.old.items (map (λ l. l.into) (named_leaves_view leaves.now))) }
+{
+    for leaf in leaves {
+        add_name(alloc, names, leaf.into.as_str())?;
+    }
+    Ok(())
+}
+
+/// Puts the outputs of a group behind the names, each where it is not among them.
+fn add_below(alloc: Global, names: &mut Vec<Name>, below: &NamedBelow) -> Result<(), NoMemory>
+    ensures { OnOk result (names.new.items ≡ spec.distinct_after names.old.items (spec.outputs_below (named_below_view below.now))) }
+{
+    match below {
+        NamedBelow::Into(name) => add_name(alloc, names, name.as_str()),
+        NamedBelow::Within(leaves) => add_leaves(alloc, names, leaves),
+    }
+}
+
 /// The distinct outputs of the groups, in the order of first mention.
-fn outputs_of(alloc: Global, groups: &[NamedGroup]) -> Result<Vec<Name>, NoMemory>
-    ensures value { IfOk result (λ v. v.items ≡ spec.outputs_of (map named_view groups.now)) }
-    ensures distinct { IfOk result (λ v. IsTrue (spec.are_distinct v.items)) }
-    ensures some { IfOk result (λ v. 0 < length groups.now → 0 < length v.items) }
-    ensures few { IfOk result (λ v. length v.items ≤ length groups.now) }
+pub(crate) fn outputs_of(alloc: Global, groups: &[NamedGroup]) -> Result<Vec<Name>, NoMemory>
+    ensures { IfOk result (λ v. v.items ≡ spec.outputs_of (map named_view groups.now)) }
 {
     let mut outputs: Vec<Name> = Vec::new(alloc);
     for group in groups {
-        add_name(alloc, &mut outputs, group.into.as_str())?;
+        add_below(alloc, &mut outputs, &group.below)?;
     }
     Ok(outputs)
 }
@@ -57,30 +76,28 @@ fn position_of(names: &[Name], name: &str) -> Option<usize>
 }
 
 /// The place of a name among the names, and 0 where it is not among them.
-fn place_of(names: &[Name], name: &str) -> usize
-    requires { 0 < length names.now }
-    ensures place { result ≡ spec.place_of names.now name.now }
-    ensures within { result < length names.now }
+fn place_of(names: &[Name], name: &str) -> u32
+    requires some { 0 < length names.now }
+    requires few { length names.now ≤ 64 }
+    ensures { result ≡ spec.place_of names.now name.now }
 {
     match position_of(names, name) {
-        Some(place) => place,
+        Some(place) => place as u32,
         None => 0,
     }
 }
 
-/// The group with this place of its output.
-fn with_output(group: NamedGroup, output: u32) -> Group
-    ensures value { group_view result ≡ record { name = group.name; wanted = option_map match_view group.wanted; stages = stages_view group.stages.items; output = output } }
-    ensures name { result.name ≡ group.name }
-    ensures output { result.output ≡ output }
+/// The group with the place of its output.
+fn with_place(leaf: NamedLeaf, output: u32) -> Leaf
+    ensures { leaf_view result ≡ record { name = leaf.name; wanted = option_map match_view leaf.wanted; stages = stages_view leaf.stages.items; output = output } }
 {
-    let NamedGroup {
+    let NamedLeaf {
         name,
         wanted,
         stages,
         into: _into,
-    } = group;
-    Group {
+    } = leaf;
+    Leaf {
         name,
         wanted,
         stages,
@@ -88,55 +105,74 @@ fn with_output(group: NamedGroup, output: u32) -> Group
     }
 }
 
-/// The groups, each with the place of its output among the outputs.
-fn groups_with(
+/// The groups in a group, each with the place of its output among the outputs.
+fn leaves_with(
+    alloc: Global,
+    outputs: &[Name],
+    named: Vec<NamedLeaf>,
+) -> Result<Vec<Leaf>, NoMemory>
+    requires some { 0 < length outputs.now }
+    requires few { length outputs.now ≤ 64 }
+    ensures { IfOk result (λ v. map leaf_view v.items ≡ map (spec.leaf_with outputs.now) (named_leaves_view named.items)) }
+{
+    let mut leaves = Vec::new(alloc);
+    for leaf in named {
+        let output = place_of(outputs, leaf.into.as_str());
+        leaves.push(with_place(leaf, output))?;
+    }
+    Ok(leaves)
+}
+
+fn below_with(alloc: Global, outputs: &[Name], below: NamedBelow) -> Result<Below, NoMemory>
+    requires some { 0 < length outputs.now }
+    requires few { length outputs.now ≤ 64 }
+    ensures { IfOk result (λ b. below_view b ≡ spec.below_with outputs.now (named_below_view below)) }
+{
+    match below {
+        NamedBelow::Into(name) => Ok(Below::Output(place_of(outputs, name.as_str()))),
+        NamedBelow::Within(leaves) => {
+            let leaves = leaves_with(alloc, outputs, leaves)?;
+            Ok(Below::Inner(leaves))
+        }
+    }
+}
+
+/// The group with the places of its outputs among the outputs.
+fn group_with(alloc: Global, outputs: &[Name], group: NamedGroup) -> Result<Group, NoMemory>
+    requires some { 0 < length outputs.now }
+    requires few { length outputs.now ≤ 64 }
+    ensures { IfOk result (λ g. group_view g ≡ spec.group_with outputs.now (named_view group)) }
+{
+    let NamedGroup {
+        name,
+        wanted,
+        stages,
+        below,
+    } = group;
+    let below = below_with(alloc, outputs, below)?;
+    Ok(Group {
+        name,
+        wanted,
+        stages,
+        below,
+    })
+}
+
+/// The groups, each with the places of its outputs among the outputs.
+pub(crate) fn groups_with(
     alloc: Global,
     outputs: &[Name],
     named: Vec<NamedGroup>,
 ) -> Result<Vec<Group>, NoMemory>
     requires some { 0 < length outputs.now }
-    requires few { length outputs.now ≤ 16 }
+    requires few { length outputs.now ≤ 64 }
     ensures value { IfOk result (λ v. map group_view v.items ≡ map (spec.group_with outputs.now) (map named_view named.items)) }
-    ensures names { IfOk result (λ v. map (λ g. g.name) v.items ≡ group_names named.items) }
     ensures len { IfOk result (λ v. length v.items ≡ length named.items) }
-    ensures there { IfOk result (λ v. IsTrue (list_all (λ g. nat_lt g.output (length outputs.now)) v.items)) }
 {
     let mut groups = Vec::new(alloc);
     for group in named {
-        let output = place_of(outputs, group.into.as_str()) as u32;
-        groups.push(with_output(group, output))?;
+        let group = group_with(alloc, outputs, group)?;
+        groups.push(group)?;
     }
     Ok(groups)
-}
-
-/// The chain of a tenant with these groups.
-#[tactic(auto, unfolding(chain_spec::specs::ChainSet::chain_of))]
-pub(crate) fn chain_of(
-    alloc: Global,
-    name: Name,
-    capture: Name,
-    settings: Settings,
-    stages: Vec<Stage>,
-    named: Vec<NamedGroup>,
-) -> Result<Chain, NoMemory>
-    requires named { IsTrue (is_name name) }
-    requires capture { (1 ≤ length capture) × (length capture ≤ 255) }
-    requires stages { length stages.items ≤ 32 }
-    requires count { (1 ≤ length named.items) × (length named.items ≤ 16) }
-    requires distinct { IsTrue (spec.are_distinct (group_names named.items)) }
-    ensures { IfOk result (λ c. chain_view c ≡ spec.chain_of name capture (settings_view settings) (stages_view stages.items) (map named_view named.items)) }
-{
-    let outputs = outputs_of(alloc, &named)?;
-    let groups = groups_with(alloc, &outputs, named)?;
-    Ok(Chain {
-        name,
-        capture,
-        buffers: settings.buffers,
-        bytes: settings.bytes,
-        dry: settings.dry,
-        unparsed: settings.unparsed,
-        stages,
-        groups,
-        outputs,
-    })
 }

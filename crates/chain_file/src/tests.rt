@@ -1,9 +1,40 @@
-use crate::{ChainSet, Dry, Stage, Unparsed, fault_text};
+use crate::{Below, ChainSet, Dry, Stage, Unparsed, fault_text};
 use std::alloc::{Alloc, AllocError, Global};
 use std::test::Fail;
 
 const CHAINS: &str =
     "version = 1\n[[tenant]]\nname = \"a\"\ncapture = \"in.pcap\"\nunparsed = \"drop\"\nstages = [{ stage = \"ttl\" }]\n[[tenant.group]]\nname = \"web\"\n";
+
+/// Two tenants with every stage that a file may name, and groups in a group.
+const WHOLE: &str = "version = 2
+[[tenant]]
+name = \"a\"
+capture = \"a.pcap\"
+nat = { inside = \"10.0.0.0/8\", outside = \"203.0.113.1\", base = 40000, ports = 2 }
+stages = [
+    { stage = \"firewall\", default = \"deny\", established = true, rule = [{ verdict = \"allow\", match = { proto = \"tcp\", dport = 443 } }] },
+    { stage = \"nat\" },
+    { stage = \"route\", mac = \"02:00:00:00:00:FF\", route = [{ to = \"0.0.0.0/0\", via = \"02:00:00:00:00:01\" }] },
+    { stage = \"balance\", backend = [{ name = \"one\", mac = \"02:00:00:00:00:02\" }], epoch = [{ from = 5, backend = [{ name = \"two\", mac = \"02:00:00:00:00:03\" }] }] },
+]
+[[tenant.group]]
+name = \"tcp\"
+match = { proto = \"tcp\" }
+stages = [{ stage = \"window\", size = 512 }]
+[[tenant.group.group]]
+name = \"web\"
+match = { port = 80 }
+[[tenant.group.group]]
+name = \"other\"
+into = \"rest\"
+[[tenant.group]]
+name = \"rest\"
+[[tenant]]
+name = \"b\"
+capture = \"a.pcap\"
+[[tenant.group]]
+name = \"all\"
+";
 
 #[test]
 fn a_chain_is_read(rt: HostRuntime) -> Result<(), Fail> {
@@ -16,9 +47,23 @@ fn a_chain_is_read(rt: HostRuntime) -> Result<(), Fail> {
     );
     assert_eq!(rt; (chain.buffers, chain.bytes), (256, 65_600));
     assert_eq!(rt; (chain.dry, chain.unparsed), (Dry::Wait, Unparsed::Drop));
-    assert!(rt; chain.stages.len() == 1 && chain.stages[0] == Stage::Ttl);
+    assert!(rt; chain.stages.len() == 1 && matches!(chain.stages[0], Stage::Ttl));
     assert!(rt; chain.outputs.len() == 1 && chain.outputs[0].as_str() == "web");
     assert_eq!(rt; set.into_chains().len(), 1);
+    Ok(())
+}
+
+#[test]
+fn every_stage_is_read(rt: HostRuntime) -> Result<(), Fail> {
+    let set = ChainSet::read(rt.alloc(), WHOLE.as_bytes(), "c.toml", "out")?;
+    assert_eq!(rt; set.tenants(), 2);
+    let chain = set.chain(0);
+    assert!(rt; chain.nat.is_some() && chain.stages.len() == 4);
+    assert!(rt; matches!(chain.stages[3], Stage::Balance { .. }));
+    assert_eq!(rt; chain.groups.len(), 2);
+    assert!(rt; matches!(chain.groups[0].below, Below::Inner(_)));
+    assert!(rt; matches!(chain.groups[1].below, Below::Output(1)));
+    assert!(rt; chain.outputs.len() == 2 && chain.outputs[1].as_str() == "rest");
     Ok(())
 }
 
@@ -37,22 +82,32 @@ fn faults_are_told(rt: HostRuntime) -> Result<(), Fail> {
             "chains: 5 Name place=1\n",
         ),
         (
-            "version = 1\ntenant = [{}, {}]\n",
-            "chains: 8 TooManyTenants count=2\n",
+            "version = 1\ntenant = [{},{},{},{},{},{},{},{},{},{},{},{},{},{},{},{},{}]\n",
+            "chains: 8 TooManyTenants count=17\n",
         ),
         (
             "version = 1\n[[tenant]]\nname = \"a\"\ncapture = \"out/a.refused\"\n[[tenant.group]]\nname = \"web\"\n",
             "chains: 9 Collides out/a.refused\n",
         ),
     ] {
-        let Err(fault) = ChainSet::read(rt.alloc(), text.as_bytes(), "c.toml", "out") else {
-            assert!(rt; false, "this file is refused");
-            return Ok(());
-        };
-        let line = fault_text(rt.alloc(), &fault)?;
+        let line = refusal(&rt, text)?;
         assert_eq!(rt; line.as_str(), want);
     }
     Ok(())
+}
+
+/// The line of the fault of a file that is refused.
+fn refusal(rt: &impl Alloc<A = Global>, text: &str) -> Result<String, Fail> {
+    match ChainSet::read(rt.alloc(), text.as_bytes(), "c.toml", "out") {
+        Ok(_) => {
+            let none = String::from_str(rt.alloc(), "accepted")?;
+            Ok(none)
+        }
+        Err(fault) => {
+            let line = fault_text(rt.alloc(), &fault)?;
+            Ok(line)
+        }
+    }
 }
 
 /// The chain file, filled up with line feeds.

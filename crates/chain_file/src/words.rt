@@ -4,10 +4,10 @@ ghost use Rattle.std.specs.Prelude.{◌≡◌, option_map};
 ghost use Rattle.toml.specs.View.{view};
 ghost use Rattle.chain_spec.specs.ChainWalk as spec;
 ghost use Rattle.chain_text.specs.Gives.{Gives};
-ghost use Rattle.chain_file.specs.View.{dry_view, unparsed_view};
+ghost use Rattle.chain_types.specs.ChainParts.{dry_view, unparsed_view};
 
-use crate::chain::{Dry, Unparsed};
 use chain_text::{ChainFault, range};
+use chain_types::{Dry, Unparsed};
 use std::alloc::Global;
 use toml::Value;
 

@@ -6,7 +6,7 @@ use Rattle.toml.specs.View.{view, items_view}
 use Rattle.toml.proofs.Views.{items_view-drop}
 use Rattle.chain_spec.specs.ChainFault as spec
 use Rattle.chain_spec.specs.ChainFault.{◌>>=◌}
-use Rattle.chain_spec.specs.ChainWalk.{each_after, count}
+use Rattle.chain_spec.specs.Fields.{each_after, count}
 use Rattle.chain_text.specs.declared.fault.ChainFault.{ChainFault}
 use Rattle.chain_text.specs.Gives.{Fails, seen}
 use Rattle.chain_text.proofs.Trees.{IfSome-weaker}

@@ -8,7 +8,7 @@ use Rattle.std.specs.String.{string_cmp}
 use Rattle.toml.specs.View.{members_view}
 use Rattle.toml.proofs.Views.{Entry}
 use Rattle.chain_spec.specs.ChainSet.{is_among}
-use Rattle.chain_spec.specs.ChainWalk.{Text, lesser, stranger}
+use Rattle.chain_spec.specs.Fields.{Text, lesser, stranger}
 
 -- the first such key
 abbrev pub first : List Text → List Entry → Option Text

@@ -1,6 +1,7 @@
 -- What a reading of the code gives: the value of the definition, or its fault. Want of memory alone is free.
-use Rattle.std.specs.Prelude.{◌≡◌, Option, Some, None, Result, Ok, Err, IfSome}
+use Rattle.std.specs.Prelude.{◌≡◌, Option, Some, None, Result, Ok, Err, IfSome, option_map}
 use Rattle.chain_spec.specs.ChainFault as spec
+use Rattle.lpm_fw.specs.RouteView.{fault_view}
 use Rattle.chain_text.specs.declared.fault.ChainFault.{ChainFault}
 use Rattle.chain_text.specs.declared.fault.ChainFault.TheVariants as code
 
@@ -11,6 +12,8 @@ seen (code.Missing place key) = Some (spec.Missing place key)
 seen (code.Unknown place key) = Some (spec.Unknown place key)
 seen (code.Range place key) = Some (spec.Range place key)
 seen (code.Name place) = Some (spec.Name place)
+seen (code.SecondWindow place) = Some (spec.SecondWindow place)
+seen (code.Route place fault) = option_map (spec.Route place) (fault_view fault)
 seen (code.TooManyTenants count) = Some (spec.TooManyTenants count)
 seen (code.Collides name) = Some (spec.Collides name)
 seen code.TooLong = Some spec.TooLong

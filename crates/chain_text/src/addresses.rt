@@ -1,10 +1,13 @@
 //! Addresses, prefixes and Ethernet addresses in a text.
 
-ghost use Rattle.std.specs.Prelude.{◌≡◌, ◌<◌, ◌==◌, IfOk, map, option_map};
+ghost use Rattle.std.specs.Prelude.{◌≡◌, ◌<◌, ◌≤◌, ◌==◌, [], ◌∷◌, IfOk, IfSome, Some, None, map, option_map, if◌then◌else◌};
 ghost use Rattle.std.specs.List.{slice_split};
 ghost use Rattle.chain_spec.specs.ChainText as spec;
+ghost use Rattle.brick_spec.specs.Route.{has_host_bits};
 ghost use Rattle.brick_base.specs.PrefixView.{prefix_view};
+ghost use Rattle.chain_text.specs.Written.{any_prefix_view, six_of};
 
+use crate::any_prefix::AnyPrefix;
 use crate::numbers::number_of;
 use brick_base::{NoMemory, Prefix};
 use std::alloc::{AllocError, Global};
@@ -45,9 +48,13 @@ pub fn address_of(alloc: Global, text: &str) -> Result<Option<u32>, NoMemory>
     Ok(address_in(&parts))
 }
 
-#[tactic(auto, unfolding(chain_spec::specs::ChainText::prefix_of_two))]
-fn prefix_of_two(alloc: Global, address: &str, bits: &str) -> Result<Option<Prefix>, NoMemory>
-    ensures { IfOk result (λ p. option_map prefix_view p ≡ spec.prefix_of_two address.now bits.now) }
+#[tactic(auto, unfolding(chain_spec::specs::ChainText::any_prefix_of_two))]
+fn any_prefix_of_two(
+    alloc: Global,
+    address: &str,
+    bits: &str,
+) -> Result<Option<AnyPrefix>, NoMemory>
+    ensures { IfOk result (λ p. option_map any_prefix_view p ≡ spec.any_prefix_of_two address.now bits.now) }
 {
     let Some(addr) = address_of(alloc, address)? else {
         return Ok(None);
@@ -55,22 +62,111 @@ fn prefix_of_two(alloc: Global, address: &str, bits: &str) -> Result<Option<Pref
     let Some(bits) = number_of(32, bits) else {
         return Ok(None);
     };
-    Ok(Prefix::new(addr, bits as u8))
+    Ok(Some(AnyPrefix {
+        addr,
+        bits: bits as u8,
+    }))
 }
 
-fn prefix_in(alloc: Global, parts: &[&str]) -> Result<Option<Prefix>, NoMemory>
-    ensures { IfOk result (λ p. option_map prefix_view p ≡ spec.prefix_in (map (λ x. x.now) parts.now)) }
+fn any_prefix_in(alloc: Global, parts: &[&str]) -> Result<Option<AnyPrefix>, NoMemory>
+    ensures { IfOk result (λ p. option_map any_prefix_view p ≡ spec.any_prefix_in (map (λ x. x.now) parts.now)) }
 {
     match parts {
-        [address, bits] => prefix_of_two(alloc, address, bits),
+        [address, bits] => any_prefix_of_two(alloc, address, bits),
         _ => Ok(None),
     }
+}
+
+/// The prefix that `a.b.c.d/n` writes, n from 0 to 32, whatever the bits of the address past the first n are.
+#[tactic(auto, unfolding(chain_spec::specs::ChainText::any_prefix_of))]
+pub fn any_prefix_of(alloc: Global, text: &str) -> Result<Option<AnyPrefix>, NoMemory>
+    ensures { IfOk result (λ p. option_map any_prefix_view p ≡ spec.any_prefix_of text.now) }
+{
+    let parts = cut(alloc, text, '/')?;
+    any_prefix_in(alloc, &parts)
+}
+
+/// The prefix, where the bits of its address past the first n are 0.
+fn without_host_bits(prefix: AnyPrefix) -> Option<Prefix>
+    ensures { option_map prefix_view result ≡ (if has_host_bits (any_prefix_view prefix) then None else Some (any_prefix_view prefix)) }
+{
+    Prefix::new(prefix.addr, prefix.bits)
 }
 
 /// The prefix that `a.b.c.d/n` writes: n is 0 to 32, and the address has no bit past the first n.
 pub fn prefix_of(alloc: Global, text: &str) -> Result<Option<Prefix>, NoMemory>
     ensures { IfOk result (λ p. option_map prefix_view p ≡ spec.prefix_of text.now) }
 {
-    let parts = cut(alloc, text, '/')?;
-    prefix_in(alloc, &parts)
+    match any_prefix_of(alloc, text)? {
+        Some(prefix) => Ok(without_host_bits(prefix)),
+        None => Ok(None),
+    }
+}
+
+/// The value of a hexadecimal digit of either case.
+fn hex_value(digit: u8) -> Option<u8>
+    ensures value { result ≡ spec.hex_value digit }
+    ensures bound { IfSome result (λ v. v ≤ 15) }
+{
+    match digit {
+        b'0'..=b'9' => Some(digit - b'0'),
+        b'a'..=b'f' => Some(digit - b'a' + 10),
+        b'A'..=b'F' => Some(digit - b'A' + 10),
+        _ => None,
+    }
+}
+
+fn hex_byte(digits: &[u8]) -> Option<u8>
+    ensures { result ≡ spec.hex_pair digits.now }
+{
+    match digits {
+        [high, low] => {
+            let high = hex_value(*high)?;
+            let low = hex_value(*low)?;
+            Some(high * 16 + low)
+        }
+        _ => None,
+    }
+}
+
+/// The byte that two hexadecimal digits write.
+fn hex_pair(text: &str) -> Option<u8>
+    ensures { result ≡ spec.hex_pair text.now }
+{
+    hex_byte(text.as_bytes())
+}
+
+/// The bytes that pairs of hexadecimal digits write.
+fn hex_pairs(alloc: Global, parts: &[&str]) -> Result<Option<Vec<u8>>, NoMemory>
+    ensures { IfOk result (λ bytes. option_map (λ v. v.items) bytes ≡ spec.hex_pairs (map (λ x. x.now) parts.now)) }
+{
+    let mut bytes = Vec::new(alloc);
+    for part in parts {
+        let Some(byte) = hex_pair(part) else {
+            return Ok(None);
+        };
+        bytes.push(byte)?;
+    }
+    Ok(Some(bytes))
+}
+
+/// The bytes, where they are six.
+fn six_of(bytes: &[u8]) -> Option<[u8; 6]>
+    ensures { result ≡ six_of (Some bytes.now) }
+{
+    match bytes.as_array::<6>() {
+        Some(mac) => Some(*mac),
+        None => None,
+    }
+}
+
+/// The Ethernet address that six pairs of hexadecimal digits write, of either case, joined by `:` (RFC 7042, section 2.1).
+pub fn mac_of(alloc: Global, text: &str) -> Result<Option<[u8; 6]>, NoMemory>
+    ensures { IfOk result (λ mac. mac ≡ spec.mac_of text.now) }
+{
+    let parts = cut(alloc, text, ':')?;
+    match hex_pairs(alloc, &parts)? {
+        Some(bytes) => Ok(six_of(&bytes)),
+        None => Ok(None),
+    }
 }

@@ -6,6 +6,7 @@ ghost use Rattle.chain_text.specs.Gives.{Is};
 ghost use Rattle.chain_text.specs.declared.fault.ChainFault.TheVariants.{NoMemory as OutOfMemory};
 
 use brick_base::{Name, NoMemory};
+use lpm_fw::RouteFault;
 use std::alloc::{AllocError, AllocFailed, Global};
 
 /// The first fault of a chain file. The place is 0 in the top table, and t + 1 within tenant t, counted from 0.
@@ -21,6 +22,10 @@ pub enum ChainFault {
     Range { place: u32, key: Name },
     /// A text that is no name, or a name that stands twice in its array.
     Name { place: u32 },
+    /// A second `window` on a path: in a tenant's stages, a group's, and those of a group in it.
+    SecondWindow { place: u32 },
+    /// What is wrong with the rows of a stage `route`.
+    Route { place: u32, fault: RouteFault },
     /// How many tenants there are, where these are too many.
     TooManyTenants { count: u32 },
     /// A file of the run has the name of the chain file or of a capture.

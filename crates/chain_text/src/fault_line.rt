@@ -2,11 +2,28 @@
 
 ghost use Rattle.std.specs.Prelude.{◌≡◌, IfOk, IfSome, string_bytes};
 ghost use Rattle.chain_spec.specs.ChainFault as spec;
+ghost use Rattle.lpm_fw.specs.RouteView.{fault_view};
 ghost use Rattle.chain_text.specs.Gives.{seen};
 
 use crate::fault::ChainFault;
 use brick_base::NoMemory;
+use lpm_fw::RouteFault;
 use std::alloc::Global;
+
+/// What is wrong with a table of routes, and which rows these are.
+#[tactic(auto, unfolding(chain_spec::specs::ChainFault::route_words))]
+fn route_words(alloc: Global, fault: &RouteFault) -> Result<String, NoMemory>
+    ensures { IfOk result (λ text. IfSome (fault_view fault.now) (λ f. string_bytes text ≡ spec.route_words f)) }
+{
+    let text = match fault {
+        RouteFault::SamePrefix { first, second } => {
+            format!(in alloc; " SamePrefix first={first} second={second}")?
+        }
+        RouteFault::HostBits { row } => format!(in alloc; " HostBits row={row}")?,
+        RouteFault::NoMemory => return Err(NoMemory),
+    };
+    Ok(text)
+}
 
 /// The number and the name of the fault, and where it is.
 #[tactic(auto, unfolding(chain_spec::specs::ChainFault::fault_words))]
@@ -28,6 +45,11 @@ fn fault_words(alloc: Global, fault: &ChainFault) -> Result<String, NoMemory>
             format!(in alloc; "4 Range place={place} key={key}")?
         }
         ChainFault::Name { place } => format!(in alloc; "5 Name place={place}")?,
+        ChainFault::SecondWindow { place } => format!(in alloc; "6 SecondWindow place={place}")?,
+        ChainFault::Route { place, fault } => {
+            let rows = route_words(alloc, fault)?;
+            format!(in alloc; "7 Route place={place}{rows}")?
+        }
         ChainFault::TooManyTenants { count } => {
             format!(in alloc; "8 TooManyTenants count={count}")?
         }

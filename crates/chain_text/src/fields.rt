@@ -4,18 +4,15 @@ ghost use Rattle.std.specs.Prelude.{◌≡◌, ◌≤◌, None, Some, IfOk, IfSo
 ghost use Rattle.toml.specs.Data.{get_member};
 ghost use Rattle.toml.specs.View.{view, table_view, array_view};
 ghost use Rattle.chain_spec.specs.ChainSet.{is_among};
-ghost use Rattle.chain_spec.specs.ChainWalk as spec;
+ghost use Rattle.chain_spec.specs.Fields as spec;
 ghost use Rattle.chain_text.specs.Gives.{Gives};
-ghost use Rattle.brick_base.specs.PrefixView.{prefix_view};
 
-use crate::addresses::prefix_of;
 use crate::fault::{ChainFault, missing, range, unknown};
-use brick_base::Prefix;
 use std::alloc::Global;
 use toml::value::Array;
 use toml::{Table, Value};
 
-fn is_among(key: &str, row: &[&str]) -> bool
+pub(crate) fn is_among(key: &str, row: &[&str]) -> bool
     ensures { result ≡ is_among key.now (map (λ r. r.now) row.now) }
 {
     for k in row {
@@ -45,7 +42,7 @@ fn stranger<'a>(row: &[&str], table: &'a Table) -> Option<&'a str>
 }
 
 /// No key but the row's: else Unknown, with the least other key by bytes.
-#[tactic(auto, unfolding(chain_spec::specs::ChainWalk::known))]
+#[tactic(auto, unfolding(chain_spec::specs::Fields::known))]
 pub fn known(alloc: Global, place: u32, row: &[&str], table: &Table) -> Result<(), ChainFault>
     ensures { Gives (λ _. tt) result (spec.known place (map (λ r. r.now) row.now) (table_view table.now)) }
 {
@@ -63,7 +60,7 @@ pub fn value_at<'a>(table: &'a Table, key: &str) -> Option<&'a Value>
 }
 
 /// The value of a key that has to be there: else Missing.
-#[tactic(auto, unfolding(chain_spec::specs::ChainWalk::required))]
+#[tactic(auto, unfolding(chain_spec::specs::Fields::required))]
 pub fn required<'a>(
     alloc: Global,
     place: u32,
@@ -79,7 +76,7 @@ pub fn required<'a>(
 }
 
 /// The text of a key's value: else Range.
-#[tactic(auto, unfolding(chain_spec::specs::ChainWalk::text_in))]
+#[tactic(auto, unfolding(chain_spec::specs::Fields::text_in))]
 pub fn text_in<'a>(
     alloc: Global,
     place: u32,
@@ -95,7 +92,7 @@ pub fn text_in<'a>(
 }
 
 /// The table that a key's value or an array's member is: else Range.
-#[tactic(auto, unfolding(chain_spec::specs::ChainWalk::table_in))]
+#[tactic(auto, unfolding(chain_spec::specs::Fields::table_in))]
 pub fn table_in<'a>(
     alloc: Global,
     place: u32,
@@ -120,18 +117,18 @@ fn natural(number: i64) -> Option<u64>
     }
 }
 
-fn within(low: u32, high: u32, number: u64) -> Option<u32>
+fn within(low: u64, high: u32, number: u64) -> Option<u32>
     ensures value { result ≡ spec.within low high number }
     ensures bounds { IfSome result (λ n. (low ≤ n) × (n ≤ high)) }
 {
-    if low as u64 <= number && number <= high as u64 {
+    if low <= number && number <= high as u64 {
         Some(number as u32)
     } else {
         None
     }
 }
 
-fn number_from(low: u32, high: u32, value: &Value) -> Option<u32>
+fn number_from(low: u64, high: u32, value: &Value) -> Option<u32>
     ensures value { result ≡ spec.number_from low high (view value.now) }
     ensures bounds { IfSome result (λ n. (low ≤ n) × (n ≤ high)) }
 {
@@ -140,12 +137,12 @@ fn number_from(low: u32, high: u32, value: &Value) -> Option<u32>
 }
 
 /// A number from low to high: else Range.
-#[tactic(auto, unfolding(chain_spec::specs::ChainWalk::number_in))]
+#[tactic(auto, unfolding(chain_spec::specs::Fields::number_in))]
 pub fn number_in(
     alloc: Global,
     place: u32,
     key: &str,
-    low: u32,
+    low: u64,
     high: u32,
     value: &Value,
 ) -> Result<u32, ChainFault>
@@ -174,7 +171,7 @@ pub fn number_or(
 {
     match value {
         None => Ok(default),
-        Some(value) => number_in(alloc, place, key, low, high, value),
+        Some(value) => number_in(alloc, place, key, low as u64, high, value),
     }
 }
 
@@ -193,29 +190,9 @@ pub fn number_at(
     match value {
         None => Ok(None),
         Some(value) => {
-            let number = number_in(alloc, place, key, low, high, value)?;
+            let number = number_in(alloc, place, key, low as u64, high, value)?;
             Ok(Some(number))
         }
-    }
-}
-
-/// A prefix, and none where there is no value. A text that is none, also one with a bit past the prefix, gives Range.
-#[tactic(auto, unfolding(chain_spec::specs::ChainWalk::prefix_at))]
-pub fn prefix_at(
-    alloc: Global,
-    place: u32,
-    key: &str,
-    value: Option<&Value>,
-) -> Result<Option<Prefix>, ChainFault>
-    ensures { Gives (option_map prefix_view) result (spec.prefix_at place key.now (option_map (λ v. view v.now) value.entry)) }
-{
-    let Some(value) = value else {
-        return Ok(None);
-    };
-    let text = text_in(alloc, place, key, value)?;
-    match prefix_of(alloc, text)? {
-        Some(prefix) => Ok(Some(prefix)),
-        None => Err(range(alloc, place, key)),
     }
 }
 
@@ -228,7 +205,7 @@ pub fn count_of(array: &Array) -> usize
 }
 
 /// The array of low to high members that a key's value is: else Range.
-#[tactic(auto, unfolding(chain_spec::specs::ChainWalk::array_in))]
+#[tactic(auto, unfolding(chain_spec::specs::Fields::array_in))]
 pub fn array_in<'a>(
     alloc: Global,
     place: u32,

@@ -2,6 +2,7 @@
 #![tactic(auto)]
 
 mod addresses;
+mod any_prefix;
 mod fault;
 mod fault_line;
 mod fields;
@@ -9,14 +10,19 @@ mod names;
 mod numbers;
 #[cfg(test)]
 mod tests;
+mod texts;
 mod tree;
 
-pub use addresses::{address_of, prefix_of};
+pub use addresses::{address_of, any_prefix_of, mac_of, prefix_of};
+pub use any_prefix::AnyPrefix;
 pub use fault::{ChainFault, missing, range, unknown};
 pub use fault_line::fault_text;
 pub use fields::{
-    array_in, count_of, known, number_at, number_in, number_or, prefix_at, required, table_in,
-    text_in, value_at,
+    array_in, count_of, known, number_at, number_in, number_or, required, table_in, text_in,
+    value_at,
 };
 pub use names::is_name;
+pub use texts::{
+    address_in, any_prefix_in, bytes_in, mac_in, name_in, prefix_at, prefix_in, truth_or_false,
+};
 pub use tree::table_of;

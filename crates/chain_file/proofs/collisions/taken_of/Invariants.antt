@@ -1,7 +1,8 @@
 use Rattle.std.proofs.Common.{◌≡◌, [], ◌∷◌, ◌++◌, drop, map}
 use Rattle.chain_spec.specs.ChainSet.{output_file, refused_file, file_names}
 use Rattle.chain_spec.specs.ChainWalk.{first_taken}
-use Rattle.chain_file.specs.View.{chain_view, chain_captures}
+use Rattle.chain_types.specs.View.{chain_view}
+use Rattle.chain_file.specs.View.{chain_captures}
 use Rattle.chain_file.proofs.collisions.taken_of.Given as goal
 
 abbrev pub invariant-loop-output : goal.invariant-loop-output

@@ -1,7 +1,7 @@
 use Rattle.std.proofs.Common.{◌≡◌, ◌∙◌, [], refl, sym, arith, map, None, Option, option_map, ap}
 use Rattle.std.proofs.lemmas.Grind.{common_steps}
 use Rattle.std.specs.Option.{option_or}
-use Rattle.chain_spec.specs.ChainWalk.{Text}
+use Rattle.chain_spec.specs.Fields.{Text}
 use Rattle.chain_text.proofs.Least.{first, first_is_least, or_none}
 use Rattle.chain_text.proofs.fields.stranger.Goals as goal
 

@@ -1,0 +1,37 @@
+use Rattle.std.proofs.Common.{◌≡◌, ◌∙◌, ◌++◌, ◌∷◌, [], arith, ap, sym, map}
+use Rattle.std.proofs.lemmas.Result.{err_from_is_err_and}
+use Rattle.std.proofs.lemmas.List.{map_push}
+use Rattle.toml.specs.View.{items_view}
+use Rattle.chain_spec.specs.Fields.{each}
+use Rattle.chain_spec.specs.StageWalk.{backend_at}
+use Rattle.chain_text.proofs.Arrays.{goes_on, leaves, ends}
+use Rattle.chain_types.specs.StageView.{backend_view, backends_view}
+use Rattle.chain_spec.specs.ChainSet.{are_distinct}
+use Rattle.chain_spec.proofs.Lists.{distinct_push}
+use Rattle.stage_text.specs.Names.{backend_names}
+use Rattle.stage_text.proofs.backends.backends.Goals as goal
+
+pub returns-in_err-backend-clause-value : goal.returns-in_err-backend-clause-value
+returns-in_err-backend-clause-value c =
+    let p = err_from_is_err_and c.from_residual.result c.from_residual.ensures.1 in
+    let fails = leaves (backend_at c.args.place) c.in_err-backend.field-0.0 (backends_view c.loop-value.backends.items) c.deref-value-items.result.now c.loop-value.value-index c.value-item.result _
+    c.loop-value-test.true c.value-item.is c.loop-value.invariant.all (rw c.as_slice.ensures.value at c.in_err-backend.ensures.value) in
+    rw (p.1, p.2) (rw c.deref-value-items.ensures.value at fails)
+
+pub loop-value-preserved : goal.loop-value-preserved
+loop-value-preserved c =
+    let x = c.in_ok-backend.backend in
+    let before = c.loop-value.backends.items in
+    let e : backends_view c.push.new.self.items ≡ backends_view before ++ backend_view x ∷ [] = rw c.in_ok-push.ensures.items (map_push _ before x) in
+    let names : backend_names c.push.new.self.items ≡ backend_names before ++ x.name ∷ [] = ap (map (λ b. b.name)) e ∙ map_push _ (backends_view before) (backend_view x) in
+    record {
+      all = rw e (goes_on (backend_at c.args.place) (backends_view before) (backend_view x) c.deref-value-items.result.now c.loop-value.value-index c.value-item.result _
+          c.loop-value-test.true c.value-item.is (rw c.as_slice.ensures.value at c.in_ok-backend.ensures.value) c.loop-value.invariant.all);
+      count = omega (arith, c.in_ok-push.ensures.len);
+      distinct = ap are_distinct names ∙ distinct_push (backend_names before) x.name c.loop-value.invariant.distinct (rw c.as_slice.ensures.value at c.in_ok-backend.ensures.fresh);
+    }
+
+pub returns-clause-value : goal.returns-clause-value
+returns-clause-value c =
+    ap (λ vs. each (backend_at c.args.place) (items_view vs)) (sym c.deref-value-items.ensures.value)
+    ∙ ends (backend_at c.args.place) (backends_view c.loop-value.backends.items) c.deref-value-items.result.now c.loop-value.value-index _ c.loop-value-test.false c.loop-value.invariant.all
