@@ -1,10 +1,11 @@
-mod Counting
-mod Moves
-mod Lawful
-mod Finished
-mod Stated
-mod Turns
-mod Still
-mod Knows
-mod Worked
-mod AtEnd
+pub mod Counting
+pub mod Moves
+pub mod Lawful
+pub mod Finished
+pub mod Stated
+pub mod Turns
+pub mod Still
+pub mod Knows
+pub mod Worked
+pub mod AtEnd
+pub mod Views

@@ -1,0 +1,5 @@
+use Rattle.lane_table.proofs.Handed
+use Rattle.lane_table.proofs.laws.join_is_unseen.Goals as goal
+
+pub returns : goal.returns
+returns c = Handed.join_unseen

@@ -1,0 +1,11 @@
+pub mod Cells
+pub mod Rule
+pub mod Steps
+pub mod Joins
+pub mod Hands
+pub mod Logs
+pub mod Seats
+pub mod Starts
+pub mod Ends
+pub mod Shown
+pub mod Kits
