@@ -1,14 +1,15 @@
 -- The promises of mode `check`, from what its parts did.
 use Rattle.std.proofs.Common.{◌≡◌, ◌≢◌, ◌⊎◌, inl, inr, ℕ, List, ◌++◌, refl, sym, ◌∙◌, ap, subst, arith}
-use Rattle.std.proofs.lemmas.List.{append-nil}
+use Rattle.std.specs.Prelude.{flat_map}
 use Rattle.chain_spec.specs.ChainFault.{ChainFault}
 use Rattle.chain_spec.specs.ChainSet.{Chain}
-use Rattle.chain_spec.specs.Report.{Outcome, Usage, ChainsRefused, StoreFault, NoMemory, Checked, Reported, ok_text, outcome_text, IsChecked}
+use Rattle.run_spec.specs.Report.{Outcome, Usage, ChainsRefused, StoreFault, NoMemory, Checked, Reported, ok_text, outcome_text}
 use Rattle.brick_spec.specs.Cause.{Rose}
 use Rattle.brick_spec.specs.Files.{AllStay}
-use Rattle.chain_spec.specs.Promise.{Held, Seen, CountRose, Says, Refuses, IsRefused, NoneRose, Told, Shown}
-use Rattle.chain_spec.specs.Check.{IsTrueOfCheck, CheckPromises}
-use Rattle.bricks_main.proofs.Promises.{StatusIs, status_is, says_refuses, says_refused, same_chain, refusal_shown}
+use Rattle.run_spec.specs.Seen.{Held, Seen, CountRose, Says, Refuses, IsRefused, NoneRose}
+use Rattle.run_spec.specs.Told.{Told, Shown}
+use Rattle.run_spec.specs.Check.{IsTrueOfCheck, CheckPromises, names_of}
+use Rattle.bricks_main.proofs.Promises.{StatusIs, status_is, says_refuses, says_refused, same_set, refusal_shown}
 
 -- what the parts of a check did
 pub record HasChecked (tells shows : Type 0) (chains out : List ℕ) (before now : Seen) (outcome : Outcome) (status : ℕ) : Type 0 where
@@ -16,8 +17,8 @@ pub record HasChecked (tells shows : Type 0) (chains out : List ℕ) (before now
   pub files : tells → AllStay before.store.files now.store.files
   pub counts : (account : ℕ) (name : List ℕ) → account ≢ 0 → now.store.faults account name ≡ before.store.faults account name
   pub told : Told outcome status
-  pub sink : status ≡ 5 → Rose before.sink_faults now.sink_faults
-  pub shown : shows → Shown outcome before.written now.written before.sink_faults now.sink_faults status
+  pub sink : status ≡ 5 → Rose before.sink.faults now.sink.faults
+  pub shown : shows → Shown outcome before.sink now.sink status
 
 -- STATUSES
 
@@ -117,7 +118,7 @@ fault_of tells chains out before now (Checked names) s (inr (inr is)) h e = absu
 -- ACCEPTED
 
 accepted_only : (tells : Type 0) (chains out : List ℕ) (before now : Held) (o : Outcome) (s : ℕ) → tells → StatusIs o s → IsTrueOfCheck tells chains out before now o → s ≡ 0
-    → (chain : Chain) × Says chains out before.files chain
+    → (set : List Chain) × Says chains out before.files set
 accepted_only tells chains out before now Usage s t is h e = absurd h
 accepted_only tells chains out before now (Reported lines) s t is h e = absurd h
 accepted_only tells chains out before now (ChainsRefused f) s t (inl is) h e = absurd (omega arith)
@@ -128,22 +129,22 @@ accepted_only tells chains out before now NoMemory s t is h e = absurd (omega ar
 accepted_only tells chains out before now (Checked names) s t is h e = (h.0, h.1 t)
 
 accepted_comes : (tells : Type 0) (chains out : List ℕ) (before now : Seen) (o : Outcome) (s : ℕ) → tells → StatusIs o s → IsTrueOfCheck tells chains out before.store now.store o
-    → (s ≡ 5 → Rose before.sink_faults now.sink_faults) → (chain : Chain) → Says chains out before.store.files chain
-    → (s ≡ 0) ⊎ ((s ≡ 5) × Rose before.sink_faults now.sink_faults) ⊎ ((s ≡ 4) × CountRose 0 chains before.store now.store) ⊎ (s ≡ 6)
-accepted_comes tells chains out before now Usage s t is h sink chain says = absurd h
-accepted_comes tells chains out before now (Reported lines) s t is h sink chain says = absurd h
-accepted_comes tells chains out before now (ChainsRefused f) s t is h sink chain says = absurd (says_refuses chains out before.store.files chain f says (h t))
-accepted_comes tells chains out before now StoreFault s t (inl is) h sink chain says = inr (inr (inl (is, h)))
-accepted_comes tells chains out before now StoreFault s t (inr is) h sink chain says = inr (inr (inr is))
-accepted_comes tells chains out before now NoMemory s t is h sink chain says = inr (inr (inr is))
-accepted_comes tells chains out before now (Checked names) s t (inl is) h sink chain says = inl is
-accepted_comes tells chains out before now (Checked names) s t (inr (inl is)) h sink chain says = inr (inl (is, sink is))
-accepted_comes tells chains out before now (Checked names) s t (inr (inr is)) h sink chain says = inr (inr (inr is))
+    → (s ≡ 5 → Rose before.sink.faults now.sink.faults) → (set : List Chain) → Says chains out before.store.files set
+    → (s ≡ 0) ⊎ ((s ≡ 5) × Rose before.sink.faults now.sink.faults) ⊎ ((s ≡ 4) × CountRose 0 chains before.store now.store) ⊎ (s ≡ 6)
+accepted_comes tells chains out before now Usage s t is h sink set says = absurd h
+accepted_comes tells chains out before now (Reported lines) s t is h sink set says = absurd h
+accepted_comes tells chains out before now (ChainsRefused f) s t is h sink set says = absurd (says_refuses chains out before.store.files set f says (h t))
+accepted_comes tells chains out before now StoreFault s t (inl is) h sink set says = inr (inr (inl (is, h)))
+accepted_comes tells chains out before now StoreFault s t (inr is) h sink set says = inr (inr (inr is))
+accepted_comes tells chains out before now NoMemory s t is h sink set says = inr (inr (inr is))
+accepted_comes tells chains out before now (Checked names) s t (inl is) h sink set says = inl is
+accepted_comes tells chains out before now (Checked names) s t (inr (inl is)) h sink set says = inr (inl (is, sink is))
+accepted_comes tells chains out before now (Checked names) s t (inr (inr is)) h sink set says = inr (inr (inr is))
 
 -- COMPLETENESS
 
 complete_of : (chains out : List ℕ) (before now : Seen) (s : ℕ)
-    → (s ≡ 0) ⊎ ((s ≡ 5) × Rose before.sink_faults now.sink_faults) ⊎ ((s ≡ 4) × CountRose 0 chains before.store now.store) ⊎ (s ≡ 6)
+    → (s ≡ 0) ⊎ ((s ≡ 5) × Rose before.sink.faults now.sink.faults) ⊎ ((s ≡ 4) × CountRose 0 chains before.store now.store) ⊎ (s ≡ 6)
     → NoneRose before now → (s ≡ 0) ⊎ (s ≡ 6)
 complete_of chains out before now s (inl is) none = inl is
 complete_of chains out before now s (inr (inl h)) none = absurd (none.sink h.1)
@@ -152,54 +153,51 @@ complete_of chains out before now s (inr (inr (inr is))) none = inr is
 
 -- REPORT
 
-checked_of : (o : Outcome) (s : ℕ) → IsNoRun o → StatusIs o s → s ≡ 0 → IsChecked o
-checked_of o s none_run is e = subst IsChecked (sym (zero_is o s none_run is e).1) tt
-
 -- the report of an accepted chain file is the line of the chain that it says
 ok_of : (tells : Type 0) (chains out : List ℕ) (before now : Seen) (o : Outcome) (s : ℕ) → tells → StatusIs o s → IsTrueOfCheck tells chains out before.store now.store o
-    → Shown o before.written now.written before.sink_faults now.sink_faults s → s ≡ 0 → (chain : Chain) → Says chains out before.store.files chain → now.written ≡ before.written ++ ok_text chain.name
-ok_of tells chains out before now Usage s t is h shown e chain says = absurd h
-ok_of tells chains out before now (Reported lines) s t is h shown e chain says = absurd h
-ok_of tells chains out before now (ChainsRefused f) s t (inl is) h shown e chain says = absurd (omega arith)
-ok_of tells chains out before now (ChainsRefused f) s t (inr is) h shown e chain says = absurd (omega arith)
-ok_of tells chains out before now StoreFault s t (inl is) h shown e chain says = absurd (omega arith)
-ok_of tells chains out before now StoreFault s t (inr is) h shown e chain says = absurd (omega arith)
-ok_of tells chains out before now NoMemory s t is h shown e chain says = absurd (omega arith)
-ok_of tells chains out before now (Checked names) s t is h shown e chain says =
-    let same = same_chain chains out before.store.files h.0 chain (h.1 t) says in
-    shown.report (omega arith) ∙ ap (λ x. before.written ++ outcome_text (Checked x)) h.2 ∙ ap (λ x. before.written ++ x) (append-nil (ok_text h.0.name))
-    ∙ ap (λ (x : Chain). before.written ++ ok_text x.name) same
+    → Shown o before.sink now.sink s → s ≡ 0 → (set : List Chain) → Says chains out before.store.files set → now.sink.bytes ≡ before.sink.bytes ++ flat_map ok_text (names_of set)
+ok_of tells chains out before now Usage s t is h shown e set says = absurd h
+ok_of tells chains out before now (Reported lines) s t is h shown e set says = absurd h
+ok_of tells chains out before now (ChainsRefused f) s t (inl is) h shown e set says = absurd (omega arith)
+ok_of tells chains out before now (ChainsRefused f) s t (inr is) h shown e set says = absurd (omega arith)
+ok_of tells chains out before now StoreFault s t (inl is) h shown e set says = absurd (omega arith)
+ok_of tells chains out before now StoreFault s t (inr is) h shown e set says = absurd (omega arith)
+ok_of tells chains out before now NoMemory s t is h shown e set says = absurd (omega arith)
+ok_of tells chains out before now (Checked names) s t is h shown e set says =
+    let same : h.0 ≡ set = same_set chains out before.store.files h.0 set (h.1 t) says in
+    shown.report (omega arith) ∙ ap (λ (x : List (List ℕ)). before.sink.bytes ++ flat_map ok_text x) (h.2 ∙ ap names_of same)
 
 pub check_kept : (tells shows : Type 0) (chains out : List ℕ) (before now : Seen) (o : Outcome) (s : ℕ) → HasChecked tells shows chains out before now o s → CheckPromises tells shows chains out before now s
 check_kept tells shows chains out before now o s r =
     let is = status_is o s r.told in
     let none_run = is_no_run tells chains out before.store now.store o r.is_true in
     record {
-      tenant = not_one o s none_run is;
-      line = not_two o s none_run is;
-      chain_file = λ t. record {
-        refused = refused_of tells chains out before.store now.store o s t is r.is_true;
-        comes = refused_comes tells chains out before.store now.store o s t is r.is_true;
-        files = λ refused. r.files t;
-        shown = λ w e f refused. refusal_shown chains out before now o s is (λ g is_g. refusal_is tells chains out before.store now.store o g is_g t r.is_true) (r.shown w) e f refused;
+      reading = record {
+        line = not_two o s none_run is;
+        chain_file = λ t. record {
+          refused = refused_of tells chains out before.store now.store o s t is r.is_true;
+          comes = refused_comes tells chains out before.store now.store o s t is r.is_true;
+          files = λ refused. r.files t;
+          shown = λ w e f refused. refusal_shown chains out before now o s is (λ g is_g. refusal_is tells chains out before.store now.store o g is_g t r.is_true) (r.shown w) e f refused;
+        };
+        store_fault = record { cause = fault_of tells chains out before.store now.store o s is r.is_true; files = λ t e. r.files t };
+        sink_fault = record { cause = r.sink };
       };
+      tenant = not_one o s none_run is;
       accepted = λ t. record {
         only = accepted_only tells chains out before.store now.store o s t is r.is_true;
         comes = accepted_comes tells chains out before now o s t is r.is_true r.sink;
       };
-      store_fault = record { cause = fault_of tells chains out before.store now.store o s is r.is_true; files = λ t e. r.files t };
-      sink_fault = record { cause = r.sink };
       files = r.files;
       counts = r.counts;
       report = record {
         outcome = o;
         told = r.told;
-        accepted = checked_of o s none_run is;
         shown = r.shown;
         true_of = r.is_true;
-        ok = λ t w e chain says. ok_of tells chains out before now o s t is r.is_true (r.shown w) e chain says;
+        ok = λ t w e set says. ok_of tells chains out before now o s t is r.is_true (r.shown w) e set says;
       };
       completeness = λ t. record {
-        succeeds = λ chain says none. complete_of chains out before now s (accepted_comes tells chains out before now o s t is r.is_true r.sink chain says) none;
+        succeeds = λ set says none. complete_of chains out before now s (accepted_comes tells chains out before now o s t is r.is_true r.sink set says) none;
       };
     }

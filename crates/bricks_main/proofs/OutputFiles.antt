@@ -6,11 +6,12 @@ use Rattle.std.specs.Str.{bytes_eq}
 use Rattle.std.proofs.lemmas.Bool.{and_parts}
 use Rattle.std.proofs.lemmas.Slice.Eq.{bytes_eq-Decides}
 use Rattle.std.proofs.lemmas.List.{append_cancel_left, append_cancel_right}
-use Rattle.brick_spec.specs.Files.{Files, AllStay}
+use Rattle.brick_spec.specs.Files.{Files}
 use Rattle.brick_spec.specs.Texts.{Text, AreDistinct, OthersStayOf}
 use Rattle.brick_spec.specs.Capture.{Contents}
 use Rattle.chain_spec.specs.ChainSet.{Chain, output_file, refused_file, file_names, is_among, are_new, are_distinct}
-use Rattle.chain_spec.specs.Tenant.{output_with_text, refused_text, output_text, texts_of}
+use Rattle.tenant_spec.specs.Tenant.{texts_of}
+use Rattle.tenant_spec.proofs.Texts.{names_of_texts}
 
 -- AN OUTPUT AND THE REFUSED RECORDS
 
@@ -82,38 +83,38 @@ apart_of n before (m ∷ ms) among new =
     clash true h k = cc
     clash false h k = cc
 
--- THE TEXTS OF A RUN
+-- THE TEXTS OF A TENANT
 
--- the names of the texts are those of the files
-pub text_names : (out : List ℕ) (chain : Chain) (c : Contents) → map (λ (t : Text). t.name) (texts_of out chain c) ≡ file_names out chain
-text_names out chain c = by chain.outputs
+-- no name stands twice
+abbrev AreApart : List (List ℕ) → Type 0
+AreApart [] = Unit {0}
+AreApart (n ∷ ns) = AllByRecursion (λ m. n ≢ m) ns × AreApart ns
+
+by_names : (ts : List Text) → AreApart (map (λ (t : Text). t.name) ts) → AreDistinct ts
+by_names [] h = tt
+by_names (t ∷ ts) h = (others ts h.0, by_names ts h.1)
   where
-    by : (names : List (List ℕ)) → map (λ (t : Text). t.name) (map (output_with_text out chain (output_text chain c)) names ++ refused_text out chain ∷ []) ≡ map (output_file out chain.name) names ++ refused_file out chain.name ∷ []
-    by [] = refl
-    by (n ∷ ns) = ap (λ (t : List (List ℕ)). output_file out chain.name n ∷ t) (by ns)
+    others : (us : List Text) → AllByRecursion (λ m. t.name ≢ m) (map (λ (u : Text). u.name) us) → AllByRecursion (λ u. t.name ≢ u.name) us
+    others [] h = tt
+    others (u ∷ us) h = (h.0, others us h.1)
 
--- what is said of the files of a run is said of those of its texts
-pub text_others : (out : List ℕ) (chain : Chain) (c : Contents) (old new : Files) → OthersStayOf (file_names out chain) old new → OthersStayOf (map (λ (t : Text). t.name) (texts_of out chain c)) old new
-text_others out chain c old new others = subst (λ (names : List (List ℕ)). OthersStayOf names old new) (sym (text_names out chain c)) others
-
-pub file_others : (out : List ℕ) (chain : Chain) (c : Contents) (old new : Files) → OthersStayOf (map (λ (t : Text). t.name) (texts_of out chain c)) old new → OthersStayOf (file_names out chain) old new
-file_others out chain c old new others = subst (λ (names : List (List ℕ)). OthersStayOf names old new) (text_names out chain c) others
-
-pub distinct_texts : (out : List ℕ) (chain : Chain) (c : Contents) → IsTrue (are_distinct chain.outputs) → AreDistinct (texts_of out chain c)
-distinct_texts out chain c distinct = by [] chain.outputs distinct
+names_apart : (out name : List ℕ) (outputs : List (List ℕ)) → IsTrue (are_distinct outputs) → AreApart (map (output_file out name) outputs ++ refused_file out name ∷ [])
+names_apart out name outputs distinct = by [] outputs distinct
   where
     others : (n : List ℕ) (names : List (List ℕ)) → AllByRecursion (λ m. n ≢ m) names
-        → AllByRecursion (λ (t : Text). output_file out chain.name n ≢ t.name) (map (output_with_text out chain (output_text chain c)) names ++ refused_text out chain ∷ [])
-    others n [] apart = (files_apart out chain.name n, tt)
-    others n (m ∷ ms) apart = (λ same. apart.0 (output_name out chain.name n m same), others n ms apart.1)
+        → AllByRecursion (λ m. output_file out name n ≢ m) (map (output_file out name) names ++ refused_file out name ∷ [])
+    others n [] apart = (files_apart out name n, tt)
+    others n (m ∷ ms) apart = (λ same. apart.0 (output_name out name n m same), others n ms apart.1)
 
-    by : (before names : List (List ℕ)) → are_new before names ≡ true → AreDistinct (map (output_with_text out chain (output_text chain c)) names ++ refused_text out chain ∷ [])
+    by : (before names : List (List ℕ)) → are_new before names ≡ true → AreApart (map (output_file out name) names ++ refused_file out name ∷ [])
     by before [] new = (tt, tt)
     by before (n ∷ ns) new =
         let parts = and_parts (not (is_among n before)) (are_new (before ++ n ∷ []) ns) new in
         (others n ns (apart_of n (before ++ n ∷ []) ns (among_last before n) parts.1), by (before ++ n ∷ []) ns parts.1)
 
--- where every name stays, those of the files do
-pub all_none : (names : List (List ℕ)) (old new : Files) → AllStay old new → AllByRecursion (λ name. new name ≡ old name) names
-all_none [] old new stay = tt
-all_none (n ∷ ns) old new stay = (stay n, all_none ns old new stay)
+pub distinct_texts : (out : List ℕ) (chain : Chain) (c : Contents) → IsTrue (are_distinct chain.outputs) → AreDistinct (texts_of out chain [] c)
+distinct_texts out chain c distinct = by_names (texts_of out chain [] c) (subst AreApart (sym (names_of_texts out chain [] c)) (names_apart out chain.name chain.outputs distinct))
+
+-- what is said of the names of the texts is said of the files
+pub file_others : (out : List ℕ) (chain : Chain) (c : Contents) (old new : Files) → OthersStayOf (map (λ (t : Text). t.name) (texts_of out chain [] c)) old new → OthersStayOf (file_names out chain) old new
+file_others out chain c old new others = subst (λ (names : List (List ℕ)). OthersStayOf names old new) (names_of_texts out chain [] c) others

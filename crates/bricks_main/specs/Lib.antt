@@ -1,11 +1,5 @@
-pub mod View
-pub mod Path
-pub mod PathView
-pub mod Plain
-pub mod Progress
-pub mod ProgressView
-pub mod InPlace
-pub mod Run
-pub mod WholeFiles
 pub mod Chains
+pub mod Inputs
 pub mod Lines
+pub mod Run
+pub mod Written

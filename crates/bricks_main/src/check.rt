@@ -1,25 +1,27 @@
 //! Mode `check`: the chain file alone.
-ghost use Rattle.std.specs.Prelude.{◌≡◌, ◌≢◌, [], ◌∷◌, List, ℕ, IfOk, IsTrue};
+ghost use Rattle.std.specs.Prelude.{◌≡◌, ◌≢◌, List, ℕ, IfOk, IsTrue, map};
 ghost use Rattle.brick_spec.specs.Cause.{chains_account};
 ghost use Rattle.brick_spec.specs.Files.{AllStay};
-ghost use Rattle.chain_spec.specs.Promise.{held};
-ghost use Rattle.chain_spec.specs.Check.{IsTrueOfCheck};
-ghost use Rattle.bricks_main.specs.View.{outcome_view};
+ghost use Rattle.run_spec.specs.Seen.{held};
+ghost use Rattle.run_spec.specs.Check.{IsTrueOfCheck, names_of as names_meant};
+ghost use Rattle.chain_types.specs.View.{chain_view};
+ghost use Rattle.run_report.specs.View.{outcome_view};
 
 use crate::chains::{ChainsFault, read_chains};
-use crate::report::Outcome;
 use brick_base::{Name, NoMemory};
 use chain_file::Chain;
+use run_report::Outcome;
 use std::alloc::Global;
 use store_io::Store;
 
-/// The names of the tenants, of which there is one.
-fn names_of(alloc: Global, chain: Chain) -> Result<Vec<Name>, NoMemory>
-    ensures { IfOk result (λ names. names.items ≡ chain.name ∷ []) }
+/// The names of the tenants.
+fn names_of(alloc: Global, chains: &[Chain]) -> Result<Vec<Name>, NoMemory>
+    ensures { IfOk result (λ names. names.items ≡ names_meant (map chain_view chains.now)) }
 {
-    let Chain { name, .. } = chain;
-    let mut names = Vec::with_capacity(alloc, 1)?;
-    names.push(name)?;
+    let mut names = Vec::with_capacity(alloc, chains.len())?;
+    for chain in chains {
+        names.push(Name::new(alloc, chain.name.as_str())?)?;
+    }
     Ok(names)
 }
 
@@ -30,13 +32,13 @@ pub fn check_files<S: Store>(alloc: Global, store: &mut S, chains: &str, out: &s
     ensures held { IsTrue S.tells → AllStay (S.file store.old) (S.file store.new) }
     ensures others { (a : ℕ) (n : List ℕ) → a ≢ chains_account → S.faults store.new a n ≡ S.faults store.old a n }
 {
-    let chain = match read_chains(alloc, store, chains, out) {
-        Ok(chain) => chain,
+    let set = match read_chains(alloc, store, chains, out) {
+        Ok(set) => set,
         Err(ChainsFault::Refused(fault)) => return Outcome::ChainsRefused(fault),
         Err(ChainsFault::Failed) => return Outcome::StoreFault,
         Err(ChainsFault::NoMemory) => return Outcome::NoMemory,
     };
-    match names_of(alloc, chain) {
+    match names_of(alloc, &set) {
         Ok(names) => Outcome::Checked(names),
         Err(NoMemory) => Outcome::NoMemory,
     }

@@ -1,194 +1,127 @@
-//! A run without lanes: the chain file's tenant, from the files of a store to its files.
-ghost use Rattle.std.specs.Prelude.{◌≡◌, ◌≢◌, ◌+◌, ◌<◌, ℕ, IfOk, IsTrue, map, string_bytes};
-ghost use Rattle.brick_spec.specs.Cause as cause;
-ghost use Rattle.chain_spec.specs.Tenant.{output_with, output_with_text, output_text, tally_of};
-ghost use Rattle.chain_spec.specs.Report.{Usage};
-ghost use Rattle.chain_spec.specs.Promise.{held, IsTrueOf};
-ghost use Rattle.chain_file.specs.View.{chain_view};
-ghost use Rattle.bricks_main.specs.View.{output_view, tally_view, end_view, outcome_view};
-ghost use Rattle.bricks_main.specs.WholeFiles.{text_view};
-ghost use Rattle.bricks_main.specs.Run.{made_tally, written_texts, one_line, TenantRan, ChainRan};
-ghost use Rattle.bricks_main.specs.ProgressView.{progress_view};
+//! A run without lanes: the chain file's tenants, from the files of a store to their files. All captures are read in order, and then the
+//! tenants are made and written one after another.
+ghost use Rattle.std.specs.Prelude.{◌≡◌, ◌≢◌, ◌≤◌, ◌<◌, ◌+◌, ◌*◌, ◌++◌, ℕ, List, OnOk, OnErr, IsTrue, length, map};
+ghost use Rattle.brick_spec.specs.Cause.{reading_account, writing_account};
+ghost use Rattle.chain_spec.specs.ChainSet as spec;
+ghost use Rattle.chain_types.specs.View.{chain_view};
+ghost use Rattle.run_spec.specs.Isolation.{none_refused, IsTrueOf};
+ghost use Rattle.run_spec.specs.Report as report;
+ghost use Rattle.run_spec.specs.Seen.{Held, Says, held};
+ghost use Rattle.run_spec.specs.Tenants.{AllApart, TenantsRan, TenantsMay};
+ghost use Rattle.run_report.specs.View.{line_view, outcome_view};
+ghost use Rattle.bricks_main.specs.Run.{RanOn, CanRun, AllRan};
 
 use crate::chains::{ChainsFault, read_chains};
-use crate::progress::Progress;
-use crate::refusal::refusal_of;
-use crate::report::{Line, Outcome, Output, Tally, TenantEnd};
-use crate::tenant::take_records;
-use crate::whole_files::{ReadFault, Text, read_whole, write_texts};
+use crate::inputs::{TenantInput, read_tenants};
+use crate::written::write_made;
 use brick_base::{Name, NoMemory};
-use chain_file::{Chain, output_file, refused_file};
-use pcap_io::Capture;
+use chain_file::Chain;
+use chain_run::TenantWork;
+use run_report::{Line, Outcome, TenantEnd};
 use std::alloc::Global;
-use store_io::{IoFault, Store};
+use store_io::Store;
+use tenant_run::make_tenant;
 
-/// The most bytes of a capture.
-const LONGEST_CAPTURE: usize = 33554432;
-
-/// The account that reads for a tenant.
-fn reading_account(tenant: u32) -> u32
-    requires { tenant < 16 }
-    ensures { result ≡ cause.reading_account tenant }
-{
-    1 + 2 * tenant
-}
-
-/// The account that writes for a tenant.
-fn writing_account(tenant: u32) -> u32
-    requires { tenant < 16 }
-    ensures { result ≡ cause.writing_account tenant }
-{
-    2 + 2 * tenant
-}
-
-/// The outputs, each with how many items it has.
-fn outputs_with(alloc: Global, names: &[Name], items: u32) -> Result<Vec<Output>, NoMemory>
-    ensures { IfOk result (λ outputs. map output_view outputs.items ≡ map (output_with items) names.now) }
-{
-    let mut outputs = Vec::with_capacity(alloc, names.len())?;
-    for name in names {
-        outputs.push(Output {
-            name: Name::new(alloc, name.as_str())?,
-            items,
-        })?;
-    }
-    Ok(outputs)
-}
-
-/// What is counted of the tenant.
-fn tally_in(alloc: Global, chain: &Chain, progress: &Progress) -> Result<Tally, NoMemory>
-    ensures { IfOk result (λ t. tally_view t ≡ made_tally chain.now.outputs.items (progress_view progress.now)) }
-{
-    Ok(Tally {
-        accepted: progress.accepted,
-        refused: 0,
-        drops: progress.drops,
-        outputs: outputs_with(alloc, &chain.outputs, progress.passed)?,
-    })
-}
-
-/// The files of the outputs, each with this text.
-fn output_texts<'a>(
-    alloc: Global,
-    chain: &Chain,
-    out: &str,
-    output: &'a [u8],
-) -> Result<Vec<Text<'a>>, NoMemory>
-    ensures { IfOk result (λ texts. map text_view texts.items ≡ map (output_with_text out.now (chain_view chain.now) output.now) chain.now.outputs.items) }
-{
-    let mut texts = Vec::with_capacity(alloc, chain.outputs.len())?;
-    for name in &chain.outputs {
-        texts.push(Text {
-            name: output_file(alloc, out, chain.name.as_str(), name.as_str())?,
-            bytes: output,
-        })?;
-    }
-    Ok(texts)
-}
-
-/// The files of the run with their texts, in the order in which they are written.
-fn texts_in<'a>(
-    alloc: Global,
-    chain: &Chain,
-    out: &str,
-    output: &'a [u8],
-) -> Result<Vec<Text<'a>>, NoMemory>
-    ensures { IfOk result (λ texts. map text_view texts.items ≡ written_texts out.now (chain_view chain.now) output.now) }
-{
-    let mut texts = output_texts(alloc, chain, out, output)?;
-    texts.push(Text {
-        name: refused_file(alloc, out, chain.name.as_str())?,
-        bytes: &[],
-    })?;
-    Ok(texts)
-}
-
-/// What a run makes of a capture: the text of the outputs, and what is counted.
-fn make_output(
-    alloc: Global,
-    chain: &Chain,
-    capture: &Capture,
-) -> Result<(Vec<u8>, Tally), NoMemory>
-    ensures { IfOk result (λ made. (made.0.items ≡ output_text (chain_view chain.now) capture.now) × (tally_view made.1 ≡ tally_of (chain_view chain.now) capture.now)) }
-{
-    let progress = take_records(alloc, chain, capture)?;
-    let tally = tally_in(alloc, chain, &progress)?;
-    let Progress { writer, .. } = progress;
-    Ok((writer.into_bytes(), tally))
-}
-
-/// Reads the capture of a tenant, and writes its files. After a fault of writing the rest of its files are not touched.
+/// Makes and writes a tenant, where its capture was read whole. After a fault of writing the rest of its files are not touched.
 fn run_tenant<S: Store>(
     alloc: Global,
     store: &mut S,
     tenant: u32,
     chain: &Chain,
+    input: &TenantInput,
     out: &str,
 ) -> Result<TenantEnd, NoMemory>
     requires { tenant < 16 }
-    ensures { TenantRan (IsTrue S.tells) tenant out.now (chain_view chain.now)
-        (held (S.file store.old) (S.faults store.old)) (held (S.file store.new) (S.faults store.new)) result }
+    ensures ran { RanOn (IsTrue S.tells) out.now tenant (chain_view chain.now) input.now (held (S.file store.old) (S.faults store.old)) (held (S.file store.new) (S.faults store.new)) result }
+    ensures later { (a : ℕ) (n : List ℕ) → S.faults store.old a n ≤ S.faults store.new a n }
+    ensures others { (a : ℕ) (n : List ℕ) → a ≢ writing_account tenant → S.faults store.new a n ≡ S.faults store.old a n }
 {
-    let bytes = match read_whole(
+    match input {
+        TenantInput::TooLong => Ok(TenantEnd::TooLong),
+        TenantInput::Bad(refusal) => Ok(TenantEnd::BadCapture(*refusal)),
+        TenantInput::Unread => Ok(TenantEnd::ReadFault),
+        TenantInput::Whole(capture) => {
+            let made = make_tenant::<TenantWork>(alloc, chain, capture)?;
+            write_made(alloc, store, tenant, chain, out, capture, &made)
+        }
+    }
+}
+
+/// Makes and writes these tenants, which are numbered from `tenant`, one after another, and puts a line of each behind the others.
+fn run_tenants<S: Store>(
+    alloc: Global,
+    store: &mut S,
+    tenant: u32,
+    chains: &[Chain],
+    inputs: &[TenantInput],
+    out: &str,
+    lines: &mut Vec<Line>,
+) -> Result<(), NoMemory>
+    requires few { tenant + length chains.now ≤ 16 }
+    ensures ran { (first : Held) → CanRun (IsTrue S.tells) out.now tenant (map chain_view chains.now) first (held (S.file store.old) (S.faults store.old)) inputs.now
+        → OnOk result ((told : List report.Line) × (map line_view lines.new.items ≡ map line_view lines.old.items ++ told)
+        × TenantsRan (IsTrue S.tells) out.now first.faults none_refused tenant (map chain_view chains.now) (held (S.file store.old) (S.faults store.old)) (held (S.file store.new) (S.faults store.new)) told) }
+    ensures may { (first : Held) → CanRun (IsTrue S.tells) out.now tenant (map chain_view chains.now) first (held (S.file store.old) (S.faults store.old)) inputs.now
+        → OnErr result (IsTrue S.tells → TenantsMay out.now none_refused tenant (map chain_view chains.now) (S.file store.old) (S.file store.new)) }
+    ensures later { (a : ℕ) (n : List ℕ) → S.faults store.old a n ≤ S.faults store.new a n }
+    ensures others { (a : ℕ) (n : List ℕ) → 2 * (tenant + length chains.now) < a → S.faults store.new a n ≡ S.faults store.old a n }
+{
+    let Some((chain, more_chains)) = chains.split_first() else {
+        return Ok(());
+    };
+    let Some((input, more_inputs)) = inputs.split_first() else {
+        return Ok(());
+    };
+    let name = Name::new(alloc, chain.name.as_str())?;
+    let end = run_tenant(alloc, store, tenant, chain, input, out)?;
+    lines.push(Line { name, end })?;
+    run_tenants(
         alloc,
         store,
-        reading_account(tenant),
-        chain.capture.as_str(),
-        LONGEST_CAPTURE,
-    ) {
-        Ok(bytes) => bytes,
-        Err(ReadFault::TooLong) => return Ok(TenantEnd::TooLong),
-        Err(ReadFault::Failed) => return Ok(TenantEnd::ReadFault),
-        Err(ReadFault::NoMemory) => return Err(NoMemory),
-    };
-    let capture = match Capture::read(alloc, bytes) {
-        Ok(capture) => capture,
-        Err(fault) => return Ok(TenantEnd::BadCapture(refusal_of(fault)?)),
-    };
-    let (output, tally) = make_output(alloc, chain, &capture)?;
-    let texts = texts_in(alloc, chain, out, &output)?;
-    match write_texts(store, writing_account(tenant), &texts) {
-        Ok(()) => Ok(TenantEnd::Done(tally)),
-        Err(IoFault::Failed) => Ok(TenantEnd::WriteFault),
-        Err(IoFault::NoMemory) => Err(NoMemory),
-    }
+        tenant + 1,
+        more_chains,
+        more_inputs,
+        out,
+        lines,
+    )?;
+    Ok(())
 }
 
-/// The report of one tenant.
-fn report_one(alloc: Global, chain: &Chain, end: TenantEnd) -> Result<Outcome, NoMemory>
-    ensures { IfOk result (λ outcome. outcome_view outcome ≡ one_line (chain_view chain.now) (end_view end)) }
+/// Reads the captures of all tenants, and then makes and writes the tenants. There is a line for each.
+fn run_set<S: Store>(
+    alloc: Global,
+    store: &mut S,
+    chains: &[Chain],
+    out: &str,
+) -> Result<Vec<Line>, NoMemory>
+    requires few { length chains.now ≤ 16 }
+    requires apart { AllApart out.now (map chain_view chains.now) }
+    ensures ran { AllRan (IsTrue S.tells) out.now (map chain_view chains.now) (held (S.file store.old) (S.faults store.old)) (held (S.file store.new) (S.faults store.new)) result }
+    ensures others { (a : ℕ) (n : List ℕ) → 2 * length chains.now < a → S.faults store.new a n ≡ S.faults store.old a n }
 {
-    let mut lines = Vec::with_capacity(alloc, 1)?;
-    lines.push(Line {
-        name: Name::new(alloc, chain.name.as_str())?,
-        end,
-    })?;
-    Ok(Outcome::Reported(lines))
+    let mut inputs = Vec::with_capacity(alloc, chains.len())?;
+    let mut lines = Vec::with_capacity(alloc, chains.len())?;
+    read_tenants(alloc, store, 0, chains, &mut inputs)?;
+    run_tenants(alloc, store, 0, chains, &inputs, out, &mut lines)?;
+    Ok(lines)
 }
 
-/// Runs an accepted chain, whose tenant is tenant 0.
-fn run_chain<S: Store>(alloc: Global, store: &mut S, chain: &Chain, out: &str) -> Outcome
-    ensures { ChainRan (IsTrue S.tells) out.now (chain_view chain.now)
-        (held (S.file store.old) (S.faults store.old)) (held (S.file store.new) (S.faults store.new)) (outcome_view result) }
-{
-    let Ok(end) = run_tenant(alloc, store, 0, chain, out) else {
-        return Outcome::NoMemory;
-    };
-    match report_one(alloc, chain, end) {
-        Ok(outcome) => outcome,
-        Err(NoMemory) => Outcome::NoMemory,
-    }
-}
-
-/// Reads the chain file, and runs its chain.
+/// Reads the chain file, and runs its tenants.
 pub fn run_files<S: Store>(alloc: Global, store: &mut S, chains: &str, out: &str) -> Outcome
-    ensures { IsTrueOf (IsTrue S.tells) chains.now out.now
+    ensures is_true { IsTrueOf (IsTrue S.tells) chains.now out.now none_refused
         (held (S.file store.old) (S.faults store.old)) (held (S.file store.new) (S.faults store.new)) (outcome_view result) }
+    ensures counts { (a : ℕ) (n : List ℕ) → 32 < a → S.faults store.new a n ≡ S.faults store.old a n }
+    ensures tenants { IsTrue S.tells → (set : List spec.Chain) → Says chains.now out.now (S.file store.old) set
+        → (a : ℕ) (n : List ℕ) → 2 * length set < a → S.faults store.new a n ≡ S.faults store.old a n }
 {
-    match read_chains(alloc, store, chains, out) {
-        Ok(chain) => run_chain(alloc, store, &chain, out),
-        Err(ChainsFault::Refused(fault)) => Outcome::ChainsRefused(fault),
-        Err(ChainsFault::Failed) => Outcome::StoreFault,
-        Err(ChainsFault::NoMemory) => Outcome::NoMemory,
+    let set = match read_chains(alloc, store, chains, out) {
+        Ok(set) => set,
+        Err(ChainsFault::Refused(fault)) => return Outcome::ChainsRefused(fault),
+        Err(ChainsFault::Failed) => return Outcome::StoreFault,
+        Err(ChainsFault::NoMemory) => return Outcome::NoMemory,
+    };
+    match run_set(alloc, store, &set, out) {
+        Ok(lines) => Outcome::Reported(lines),
+        Err(NoMemory) => Outcome::NoMemory,
     }
 }

@@ -1,20 +1,22 @@
 //! The top calls.
 ghost use Rattle.std.specs.Prelude.{◌≡◌, ◌≢◌, ◌≤◌, ◌↔◌, List, ℕ, Some, IsTrue, map, string_bytes, codes};
-ghost use Rattle.brick_spec.specs.AcceptedWords.{Inline, Check, Line, line_of, IsLine};
+ghost use Rattle.words_spec.specs.AcceptedWords.{Inline, Check, Line, line_of, IsLine};
 ghost use Rattle.brick_spec.specs.Cause.{Rose};
 ghost use Rattle.brick_spec.specs.Files.{AppendsFront};
-ghost use Rattle.chain_spec.specs.Report.{Usage, HasReport};
-ghost use Rattle.chain_spec.specs.Promise.{seen, Told, Shown, CommandLinePromise, UsagePromise, InlinePromises};
-ghost use Rattle.chain_spec.specs.Check.{CheckPromises};
+ghost use Rattle.run_spec.specs.Report.{Usage, HasReport};
+ghost use Rattle.run_spec.specs.Seen.{printed, seen};
+ghost use Rattle.run_spec.specs.Told.{Told, Shown, CommandLinePromise, UsagePromise};
+ghost use Rattle.run_spec.specs.Inline.{InlinePromises};
+ghost use Rattle.run_spec.specs.Check.{CheckPromises};
 ghost use Rattle.bricks_main.specs.Lines.{LinePromises};
-ghost use Rattle.bricks_main.specs.View.{outcome_view};
+ghost use Rattle.run_report.specs.View.{outcome_view};
 ghost use Rattle.command_line.specs.View.{line_view};
 
 use crate::check::check_files;
 use crate::inline::run_files;
-use crate::report::{Outcome, outcome_text, status_of};
 use brick_base::NoMemory;
 use command_line::{CommandLine, Mode, read_words};
+use run_report::{Outcome, outcome_text, status_of};
 use std::alloc::Global;
 use store_io::{IoFault, Sink, Store};
 
@@ -39,7 +41,7 @@ pub fn tell_no_memory<P: Sink>(sink: &mut P) -> u8
 fn tell<P: Sink>(alloc: Global, sink: &mut P, outcome: &Outcome) -> u8
     ensures told { Told (outcome_view outcome.now) result }
     ensures fault { result ≡ 5 → Rose (P.faults sink.old) (P.faults sink.new) }
-    ensures shown { IsTrue P.tells → Shown (outcome_view outcome.now) (P.written sink.old) (P.written sink.new) (P.faults sink.old) (P.faults sink.new) result }
+    ensures shown { IsTrue P.tells → Shown (outcome_view outcome.now) (printed (P.written sink.old) (P.faults sink.old)) (printed (P.written sink.new) (P.faults sink.new)) result }
 {
     let Ok(text) = outcome_text(alloc, outcome) else {
         return tell_no_memory(sink);
@@ -60,12 +62,12 @@ fn tell<P: Sink>(alloc: Global, sink: &mut P, outcome: &Outcome) -> u8
 /// Tells how the program is used, for words that are no line. The answer is the exit status 2, or 6 where memory ran out.
 pub fn tell_usage<P: Sink>(alloc: Global, sink: &mut P) -> u8
     ensures told { Told Usage result }
-    ensures shown { IsTrue P.tells → Shown Usage (P.written sink.old) (P.written sink.new) (P.faults sink.old) (P.faults sink.new) result }
+    ensures shown { IsTrue P.tells → Shown Usage (printed (P.written sink.old) (P.faults sink.old)) (printed (P.written sink.new) (P.faults sink.new)) result }
 {
     tell(alloc, sink, &Outcome::Usage)
 }
 
-/// Runs the tenant of the chain file `chains`, writes its files into the folder `out_dir`, and gives the report to `out`.
+/// Runs the tenants of the chain file `chains`, writes their files into the folder `out_dir`, and gives the report to `out`.
 /// The answer is the exit status.
 pub fn run_inline<S: Store, P: Sink>(
     alloc: Global,
@@ -126,7 +128,7 @@ pub fn run_words<S: Store, P: Sink>(
     ensures command_line { CommandLinePromise (IsTrue S.tells) (IsLine (map string_bytes words.now))
         (seen (S.file store.old) (S.faults store.old) (P.written out.old) (P.faults out.old))
         (seen (S.file store.new) (S.faults store.new) (P.written out.new) (P.faults out.new)) result }
-    ensures usage { IsTrue P.tells → UsagePromise
+    ensures usage { IsTrue P.tells → UsagePromise (IsLine (map string_bytes words.now))
         (seen (S.file store.old) (S.faults store.old) (P.written out.old) (P.faults out.old))
         (seen (S.file store.new) (S.faults store.new) (P.written out.new) (P.faults out.new)) result }
     ensures inline { (line : Line) → line_of (map string_bytes words.now) ≡ Some line → line.mode ≡ Inline

@@ -4,7 +4,7 @@ use Rattle.clap.specs.Words.{Row, Text, matches_of, fault_of, is_simple, is_simp
 use Rattle.clap.specs.declared.error.kind.ErrorKind.{ErrorKind}
 use Rattle.clap.specs.declared.error.kind.ErrorKind.TheVariants as kind
 use Rattle.clap.proofs.OnLiterals.{clap_on_literals}
-use Rattle.brick_spec.specs.AcceptedWords.{command, rows, where_none}
+use Rattle.words_spec.specs.AcceptedWords.{command, rows, where_none}
 
 pub command_simple : is_simple command ≡ true
 unfolding clap_on_literals

@@ -6,9 +6,9 @@ use Rattle.clap.specs.Kinds.{or_else}
 use Rattle.clap.specs.Walk.{Held, Step, Walk, after_step, arg_by_index, finished, idle, nothing_held, settled, to_positional, value, walk, walk_from, walked, word_met}
 use Rattle.clap.specs.Faults.{check_fault, defaults_fault, entered_fault, settle_fault, step_fault, turn_fault, walk_fault, word_fault}
 use Rattle.clap.proofs.OnLiterals.{clap_on_literals}
-use Rattle.brick_spec.specs.AcceptedWords.{Inline}
-use Rattle.brick_spec.specs.AcceptedWords.{command}
-use Rattle.brick_spec.specs.AcceptedWords.{line_of, line_in, number, ◌>>=◌}
+use Rattle.words_spec.specs.AcceptedWords.{Inline}
+use Rattle.words_spec.specs.AcceptedWords.{command}
+use Rattle.words_spec.specs.AcceptedWords.{line_of, line_in, number, ◌>>=◌}
 use Rattle.command_line.proofs.ClapMatches.{rows_found}
 
 -- ---- one such word, at any command

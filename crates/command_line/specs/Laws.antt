@@ -1,7 +1,7 @@
 -- Words that are a line, and words that are none.
 use Rattle.std.specs.Prelude.{false, ◌≡◌, ◌==◌, ℕ, List, [], ◌∷◌, Some, None, codes}
 use Rattle.clap.specs.Words.{Text}
-use Rattle.brick_spec.specs.AcceptedWords.{Mode, Inline, Check, Line, line_of}
+use Rattle.words_spec.specs.AcceptedWords.{Mode, Inline, Check, Line, line_of}
 
 abbrev line_with : Mode → ℕ → Text → Text → Line
 line_with mode workers chains out = record { mode = mode; workers = workers; chains = chains; out = out }

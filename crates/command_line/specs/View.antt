@@ -1,5 +1,5 @@
 -- A line of the code as one of the definitions.
-use Rattle.brick_spec.specs.AcceptedWords as spec
+use Rattle.words_spec.specs.AcceptedWords as spec
 use Rattle.command_line.specs.declared.Mode.{Mode}
 use Rattle.command_line.specs.declared.Mode.TheVariants.{Inline, Check}
 use Rattle.command_line.specs.declared.CommandLine.{CommandLine}

@@ -2,7 +2,7 @@
 #![tactic(auto)]
 
 ghost use Rattle.std.specs.Prelude.{◌≡◌, IfOk, map, option_map, string_bytes};
-ghost use Rattle.brick_spec.specs.AcceptedWords.{line_of};
+ghost use Rattle.words_spec.specs.AcceptedWords.{line_of};
 ghost use Rattle.command_line.specs.View.{line_view};
 ghost use Rattle.command_line.specs.Laws.{Samples, PlainWords};
 

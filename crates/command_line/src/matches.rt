@@ -2,7 +2,7 @@
 
 ghost use Rattle.std.specs.Prelude.{◌≡◌, IfOk, map, option_map, string_bytes};
 ghost use Rattle.clap.specs.Words.{app_of, found_of, rows_of};
-ghost use Rattle.brick_spec.specs.AcceptedWords as spec;
+ghost use Rattle.words_spec.specs.AcceptedWords as spec;
 
 use brick_base::NoMemory;
 use clap::error::ErrorKind;

@@ -2,7 +2,7 @@
 
 ghost use Rattle.std.specs.Prelude.{◌≡◌, option_map};
 ghost use Rattle.clap.specs.Words.{first_of, found_of, rows_of};
-ghost use Rattle.brick_spec.specs.AcceptedWords as spec;
+ghost use Rattle.words_spec.specs.AcceptedWords as spec;
 ghost use Rattle.command_line.specs.View.{mode_view, line_view};
 
 use crate::{CommandLine, Mode};
@@ -40,7 +40,7 @@ fn has_leading_zero(bytes: &[u8]) -> bool
 }
 
 /// The number that decimal digits spell, without sign or leading zero.
-#[tactic(auto, unfolding(brick_spec::specs::AcceptedWords::number))]
+#[tactic(auto, unfolding(words_spec::specs::AcceptedWords::number))]
 fn number(text: &str) -> Option<u64>
     ensures { result ≡ spec.number text.now }
 {
@@ -75,7 +75,7 @@ fn text_of<'a>(matches: &ArgMatches<'a>, id: &str) -> Option<&'a str>
 }
 
 /// The line that the matches are.
-#[tactic(auto, unfolding(brick_spec::specs::AcceptedWords::line_in))]
+#[tactic(auto, unfolding(words_spec::specs::AcceptedWords::line_in))]
 pub(crate) fn line_in<'a>(matches: &ArgMatches<'a>) -> Option<CommandLine<'a>>
     ensures { option_map line_view result ≡ spec.line_in (rows_of (found_of matches.now)) }
 {

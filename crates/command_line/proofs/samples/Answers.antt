@@ -1,7 +1,7 @@
 use Rattle.std.proofs.Common.{refl}
 use Rattle.clap.proofs.OnLiterals.{clap_on_literals}
-use Rattle.brick_spec.specs.AcceptedWords.{rows}
-use Rattle.brick_spec.specs.AcceptedWords.{number, line_in}
+use Rattle.words_spec.specs.AcceptedWords.{rows}
+use Rattle.words_spec.specs.AcceptedWords.{number, line_in}
 use Rattle.command_line.proofs.samples.Goals as goal
 
 pub returns : goal.returns

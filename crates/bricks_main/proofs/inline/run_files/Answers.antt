@@ -1,14 +1,25 @@
+use Rattle.std.proofs.Common.{◌≡◌, List, map, ap, sym, subst}
 use Rattle.std.specs.Prelude.{IsTrue}
-use Rattle.chain_spec.specs.Promise.{held}
-use Rattle.chain_file.specs.View.{chain_view}
-use Rattle.bricks_main.specs.View.{outcome_view}
-use Rattle.bricks_main.proofs.Runs.{ran_after}
+use Rattle.chain_types.specs.View.{chain_view}
+use Rattle.run_spec.specs.Seen.{Says, held}
+use Rattle.run_spec.specs.Tenants.{AllApart}
+use Rattle.bricks_main.proofs.Whole.{reported_true, stopped_true}
 use Rattle.bricks_main.proofs.inline.run_files.Goals as goal
 
-pub returns-in-Ok : goal.returns-in-Ok
-returns-in-Ok g c =
-    ran_after (IsTrue g.S.Store.tells) c.args.chains.now c.args.out.now (chain_view c.in-Ok.chain) (held (g.S.Store.file c.args.store.now) (g.S.Store.faults c.args.store.now))
-    (held (g.S.Store.file c.read_chains.new.store) (g.S.Store.faults c.read_chains.new.store)) (held (g.S.Store.file c.run_chain.new.store) (g.S.Store.faults c.run_chain.new.store))
-    (outcome_view c.run_chain.result) (λ tells. c.in-Ok.ensures.held tells) c.in-Ok.ensures.cause.later
-    (λ tells. c.in-Ok.ensures.reads tells)
-    c.run_chain.ensures
+pub returns-in-Ok-run_set-clause-is_true : goal.returns-in-Ok-run_set-clause-is_true
+returns-in-Ok-run_set-clause-is_true g c =
+    let is : c.in-Ok.set.items ≡ c.deref.result.now = sym c.deref.ensures.value in
+    reported_true (IsTrue g.S.Store.tells) c.args.chains.now c.args.out.now (map chain_view c.deref.result.now) (held (g.S.Store.file c.args.store.now) (g.S.Store.faults c.args.store.now))
+    (held (g.S.Store.file c.read_chains.new.store) (g.S.Store.faults c.read_chains.new.store)) (held (g.S.Store.file c.run_set.new.store) (g.S.Store.faults c.run_set.new.store)) c.in-Ok.ensures.held
+    (λ tells. subst (λ (l : List _). Says c.args.chains.now c.args.out.now (g.S.Store.file c.args.store.now) (map chain_view l)) is (c.in-Ok.ensures.reads tells))
+    (subst (λ (l : List _). AllApart c.args.out.now (map chain_view l)) is c.in-Ok.ensures.apart)
+    c.in-Ok-run_set.lines c.in-Ok.ensures.cause.later c.in-Ok-run_set.ensures.ran
+
+pub returns-clause-is_true : goal.returns-clause-is_true
+returns-clause-is_true g c =
+    let is : c.in-Ok.set.items ≡ c.deref.result.now = sym c.deref.ensures.value in
+    stopped_true (IsTrue g.S.Store.tells) c.args.chains.now c.args.out.now (map chain_view c.deref.result.now) (held (g.S.Store.file c.args.store.now) (g.S.Store.faults c.args.store.now))
+    (held (g.S.Store.file c.read_chains.new.store) (g.S.Store.faults c.read_chains.new.store)) (held (g.S.Store.file c.run_set.new.store) (g.S.Store.faults c.run_set.new.store)) c.in-Ok.ensures.held
+    (λ tells. subst (λ (l : List _). Says c.args.chains.now c.args.out.now (g.S.Store.file c.args.store.now) (map chain_view l)) is (c.in-Ok.ensures.reads tells))
+    (subst (λ (l : List _). AllApart c.args.out.now (map chain_view l)) is c.in-Ok.ensures.apart)
+    c.in-Err.field-0 c.in-Err.ensures.ran

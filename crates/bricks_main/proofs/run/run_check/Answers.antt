@@ -1,6 +1,6 @@
 use Rattle.std.specs.Prelude.{IsTrue}
-use Rattle.chain_spec.specs.Promise.{seen}
-use Rattle.bricks_main.specs.View.{outcome_view}
+use Rattle.run_spec.specs.Seen.{seen}
+use Rattle.run_report.specs.View.{outcome_view}
 use Rattle.bricks_main.proofs.Checks.{check_kept}
 use Rattle.bricks_main.proofs.run.run_check.Goals as goal
 

@@ -2,7 +2,7 @@ use Rattle.std.proofs.Common.{rules, ◌≡◌, ◌∙◌, ap, ap₂, codes, tru
 use Rattle.std.proofs.lemmas.Result.{IfOk-weaker}
 use Rattle.clap.specs.Words.{App, app_of, new_app, rule_of, with_rule}
 use Rattle.clap.specs.Simple.{app_of_fields, on_top}
-use Rattle.brick_spec.specs.AcceptedWords.{workers_rule, word_rule}
+use Rattle.words_spec.specs.AcceptedWords.{workers_rule, word_rule}
 use Rattle.command_line.proofs.matches.command.Goals as goal
 
 abbrev unnamed : App → App

@@ -1,5 +1,5 @@
 use Rattle.std.proofs.Common.{◌≡◌, drop}
-use Rattle.brick_spec.specs.AcceptedWords as spec
+use Rattle.words_spec.specs.AcceptedWords as spec
 use Rattle.command_line.proofs.rules.number.Given as goal
 
 abbrev pub invariant-loop-character : goal.invariant-loop-character
