@@ -1,36 +1,23 @@
 #!/usr/bin/env python3
-"""Writes a.pcap from the pcap file format: big-endian, with nanoseconds, three Ethernet frames."""
-import struct
+"""A big-endian capture with nanoseconds. Writes a.pcap, and what the chain file makes of it."""
+import os
+import sys
+
+os.chdir(os.path.dirname(os.path.abspath(__file__)))
+sys.path.insert(0, "..")
+from packets import SYN, capture, line, tcp, udp, write
 
 
-def checksum(header):
-    """The Internet checksum of an even number of bytes (RFC 1071)."""
-    total = sum(struct.unpack(">%dH" % (len(header) // 2), header))
-    while total > 0xFFFF:
-        total = (total & 0xFFFF) + (total >> 16)
-    return 0xFFFF - total
+def question(ttl):
+    return udp("10.0.0.1", 1000, "10.1.2.3", 53, b"ping", ttl=ttl)
 
 
-def frame(ttl, protocol, payload):
-    """Ethernet II and IPv4 (RFC 791) from 10.0.0.1 to 10.1.2.3."""
-    ethernet = bytes.fromhex("020000000001 020000000002 0800")
-    fields = [0x45, 0, 20 + len(payload), 0, 0x4000, ttl, protocol, 0]
-    addresses = bytes([10, 0, 0, 1, 10, 1, 2, 3])
-    fields[7] = checksum(struct.pack(">BBHHHBBH", *fields) + addresses)
-    return ethernet + struct.pack(">BBHHHBBH", *fields) + addresses + payload
-
-
-def record(seconds, nanoseconds, data):
-    return struct.pack(">IIII", seconds, nanoseconds, len(data), len(data)) + data
-
-
-# UDP from port 1000 to port 53 with the payload `ping`, and a TCP segment without data from 1000 to 80
-UDP = bytes.fromhex("03e8 0035 000c 06e4") + b"ping"
-TCP = bytes.fromhex("03e8 0050 00000001 00000000 5002 2000 0000 0000")
-
-with open("a.pcap", "wb") as file:
-    # magic, version 2.4, zone, accuracy, snapshot length, link type 1
-    file.write(struct.pack(">IHHIIII", 0xA1B23C4D, 2, 4, 0, 0, 65535, 1))
-    file.write(record(1700000000, 123456789, frame(64, 17, UDP)))
-    file.write(record(1700000000, 223456789, frame(64, 6, TCP)))
-    file.write(record(1700000001, 999999999, frame(1, 17, UDP)))
+write("a.pcap", capture([
+    (1700000000, 123456789, question(64)),
+    (1700000000, 223456789, tcp("10.0.0.1", 1000, "10.1.2.3", 80, 1, SYN)),
+    (1700000001, 999999999, question(1)),
+], order=">", nanoseconds=True))
+# The output is little-endian, and its fractions are still nanoseconds.
+write("expected/a.g.pcap", capture([(1700000000, 123456789, question(63))], nanoseconds=True))
+write("expected/a.refused", "")
+write("expected/report", line("a", 3, [("g", 1)], Ttl=1, Filter=1))
