@@ -64,10 +64,10 @@ def at(k, frame):
 def capture(records, order="<", nanoseconds=False):
     """In a byte order, with microseconds or nanoseconds; each record is its seconds, its fraction and its frame."""
     magic = 0xA1B23C4D if nanoseconds else 0xA1B2C3D4
-    text = struct.pack(order + "IHHIIII", magic, 2, 4, 0, 0, 262144, 1)
+    parts = [struct.pack(order + "IHHIIII", magic, 2, 4, 0, 0, 262144, 1)]
     for seconds, fraction, frame in records:
-        text += struct.pack(order + "IIII", seconds, fraction, len(frame), len(frame)) + frame
-    return text
+        parts.append(struct.pack(order + "IIII", seconds, fraction, len(frame), len(frame)) + frame)
+    return b"".join(parts)
 
 
 def line(name, accepted, outputs, **drops):
