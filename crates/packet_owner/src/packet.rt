@@ -5,9 +5,9 @@ ghost use Rattle.pcap_io.specs.View.{entry_view, item_view};
 ghost use Rattle.packet_owner.specs.Packet.{PacketModel, AreNested, IsWithin, place_view, here_of, header_of, payload_of, packet_item, parsed, deparsed};
 
 use crate::Buffer;
+use crate::buffer::Block;
 use crate::meta::Meta;
 use crate::place::Place;
-use arrayvec::ArrayVec;
 use brick_base::{NoMemory, Proto, Raw};
 use pcap_io::{Entry, Frame, Item};
 use std::alloc::Global;
@@ -17,25 +17,19 @@ use std::marker::{Model, PhantomData};
 /// the buffer behind the frame mean nothing.
 #[derive(Drop)]
 pub struct Packet<P: Proto> {
-    slot: u32,
-    // of the frame
-    len: u32,
-    bytes: Vec<u8>,
-    meta: Meta,
-    // the outermost layer first
-    places: ArrayVec<Place, 8>,
+    block: Box<Block>,
     layer: PhantomData<P>,
 }
 
 impl<P: Proto> Model for Packet<P> {
-    ghost use Rattle.std.specs.Prelude.{◌≡◌, ◌≤◌, ◌<◌, ◌^◌, length, take, vec_len, map, reverse};
-    ghost use Rattle.packet_owner.specs.Packet.{PacketModel, AreNested, place_view};
+    ghost use Rattle.packet_owner.specs.Block.{packet_in, IsSound};
+    ghost use Rattle.packet_owner.specs.Packet.{PacketModel};
 
     ghost Value = { PacketModel };
 
-    ghost view = { λ p. record { slot = p.slot; room = vec_len p.bytes; a = p.meta.a; j = p.meta.j; seconds = p.meta.seconds; fraction = p.meta.fraction; original = p.meta.original; frame = take p.len p.bytes.items; layers = map place_view (reverse p.places.items) } };
+    ghost view = { λ p. packet_in p.block.value };
 
-    ghost invariant = { λ p. (vec_len p.bytes < 2 ^ 32) × (p.len ≤ vec_len p.bytes) × (length p.places.items ≡ P.DEPTH) × AreNested (map place_view (reverse p.places.items)) p.len };
+    ghost invariant = { λ p. IsSound P.DEPTH p.block.value };
 }
 
 /// Writes the frame over the first bytes.
@@ -63,22 +57,19 @@ impl Packet<Raw> {
         ensures room { result.room ≡ buffer.room }
         ensures layers { result.layers ≡ [] }
     {
-        let Buffer { slot, mut bytes } = buffer;
-        let len = entry.frame.len() as u32;
-        fill_front(&mut bytes, entry.frame);
-        let meta = Meta {
+        let Buffer { mut block } = buffer;
+        fill_front(&mut block.bytes, entry.frame);
+        block.len = entry.frame.len() as u32;
+        block.meta = Meta {
             a: number as u64,
             j: 0,
             seconds: entry.seconds,
             fraction: entry.fraction,
             original: entry.original,
         };
+        block.places.clear();
         Packet {
-            slot,
-            len,
-            bytes,
-            meta,
-            places: ArrayVec::new(),
+            block,
             layer: PhantomData,
         }
     }
@@ -99,21 +90,19 @@ impl Packet<Raw> {
         ensures room { result.room ≡ buffer.room }
         ensures layers { result.layers ≡ [] }
     {
-        let Buffer { slot, mut bytes } = buffer;
-        clear_front(&mut bytes, len as usize);
-        let meta = Meta {
+        let Buffer { mut block } = buffer;
+        clear_front(&mut block.bytes, len as usize);
+        block.len = len;
+        block.meta = Meta {
             a,
             j,
             seconds,
             fraction,
             original: len,
         };
+        block.places.clear();
         Packet {
-            slot,
-            len,
-            bytes,
-            meta,
-            places: ArrayVec::new(),
+            block,
             layer: PhantomData,
         }
     }
@@ -127,22 +116,14 @@ impl Packet<Raw> {
         ensures layers { result.layers ≡ [] }
     {
         let Packet {
-            slot,
-            len: _,
-            bytes,
-            meta,
-            places: _,
+            mut block,
             layer: _,
         } = self;
+        block.len = len;
+        block.meta.original = len;
+        block.places.clear();
         Packet {
-            slot,
-            len,
-            bytes,
-            meta: Meta {
-                original: len,
-                ..meta
-            },
-            places: ArrayVec::new(),
+            block,
             layer: PhantomData,
         }
     }
@@ -157,11 +138,11 @@ impl<P: Proto> Packet<P> {
         ensures value { place_view result ≡ here_of self.now }
         ensures within { IsWithin (place_view result) (length self.now.frame) }
     {
-        match self.places.last() {
+        match self.block.places.last() {
             None => Place {
                 start: 0,
                 middle: 0,
-                end: self.len,
+                end: self.block.len,
             },
             Some(place) => *place,
         }
@@ -173,7 +154,7 @@ impl<P: Proto> Packet<P> {
         ensures layers { length self.now.layers ≡ P.DEPTH }
     {
         let here = self.here();
-        &self.bytes[here.start as usize..here.middle as usize]
+        &self.block.bytes[here.start as usize..here.middle as usize]
     }
 
     /// The header of its layer, to be written. What is written stands in the frame, and nothing else changes: no layer moves.
@@ -183,7 +164,8 @@ impl<P: Proto> Packet<P> {
         ensures layers { length self.old.layers ≡ P.DEPTH }
     {
         let here = self.here();
-        self.bytes
+        self.block
+            .bytes
             .slice_mut(here.start as usize..here.middle as usize)
     }
 
@@ -193,7 +175,7 @@ impl<P: Proto> Packet<P> {
         ensures layers { length self.now.layers ≡ P.DEPTH }
     {
         let here = self.here();
-        &self.bytes[here.middle as usize..here.end as usize]
+        &self.block.bytes[here.middle as usize..here.end as usize]
     }
 
     /// The payload of its layer, to be written. What is written stands in the frame, and nothing else changes.
@@ -203,7 +185,8 @@ impl<P: Proto> Packet<P> {
         ensures layers { length self.old.layers ≡ P.DEPTH }
     {
         let here = self.here();
-        self.bytes
+        self.block
+            .bytes
             .slice_mut(here.middle as usize..here.end as usize)
     }
 
@@ -211,7 +194,7 @@ impl<P: Proto> Packet<P> {
     pub fn frame(&self) -> &[u8]
         ensures { result.now ≡ self.now.frame }
     {
-        &self.bytes[..self.len as usize]
+        &self.block.bytes[..self.block.len as usize]
     }
 
     /// Its frame, to be written. What is written stands in the frame, and nothing else changes: no layer moves.
@@ -219,7 +202,8 @@ impl<P: Proto> Packet<P> {
         ensures* writes_back { sem 𝓛 (LendsFrame P.row P.Prev.row P.Proto self.entry result) }
         ensures value { result.now ≡ self.old.frame }
     {
-        self.bytes.slice_mut(0..self.len as usize)
+        let len = self.block.len as usize;
+        self.block.bytes.slice_mut(0..len)
     }
 
     /// Reads the next layer. Where it is not there the packet comes back.
@@ -256,20 +240,12 @@ impl<P: Proto> Packet<P> {
         ensures { result ≡ record self { layers = place_view place ∷ self.layers } }
     {
         let Packet {
-            slot,
-            len,
-            bytes,
-            meta,
-            mut places,
+            mut block,
             layer: _,
         } = self;
-        places.push(place);
+        block.places.push(place);
         Packet {
-            slot,
-            len,
-            bytes,
-            meta,
-            places,
+            block,
             layer: PhantomData,
         }
     }
@@ -282,20 +258,12 @@ impl<P: Proto> Packet<P> {
         ensures { result ≡ deparsed self }
     {
         let Packet {
-            slot,
-            len,
-            bytes,
-            meta,
-            mut places,
+            mut block,
             layer: _,
         } = self;
-        let _innermost = places.pop();
+        let _innermost = block.places.pop();
         Packet {
-            slot,
-            len,
-            bytes,
-            meta,
-            places,
+            block,
             layer: PhantomData,
         }
     }
@@ -304,34 +272,34 @@ impl<P: Proto> Packet<P> {
     pub fn key(&self) -> (u64, u32)
         ensures { result ≡ (self.now.a, self.now.j) }
     {
-        (self.meta.a, self.meta.j)
+        (self.block.meta.a, self.block.meta.j)
     }
 
     /// Its time: the seconds since 1970-01-01 00:00:00 UTC, and the microseconds or nanoseconds behind them.
     pub fn times(&self) -> (u32, u32)
         ensures { result ≡ (self.now.seconds, self.now.fraction) }
     {
-        (self.meta.seconds, self.meta.fraction)
+        (self.block.meta.seconds, self.block.meta.fraction)
     }
 
     /// The number of its buffer.
     pub fn slot(&self) -> u32
         ensures { result ≡ self.now.slot }
     {
-        self.slot
+        self.block.slot
     }
 
     /// The item of the packet, with a copy of its frame.
     pub fn item(&self, alloc: Global) -> Result<Item, NoMemory>
         ensures { IfOk result (λ i. item_view i ≡ packet_item self.now) }
     {
-        let frame = self.bytes[..self.len as usize].to_vec(alloc)?;
+        let frame = self.block.bytes[..self.block.len as usize].to_vec(alloc)?;
         Ok(Item {
-            a: self.meta.a,
-            j: self.meta.j,
-            seconds: self.meta.seconds,
-            fraction: self.meta.fraction,
-            original: self.meta.original,
+            a: self.block.meta.a,
+            j: self.block.meta.j,
+            seconds: self.block.meta.seconds,
+            fraction: self.block.meta.fraction,
+            original: self.block.meta.original,
             frame: Frame::of(frame),
         })
     }
@@ -340,14 +308,7 @@ impl<P: Proto> Packet<P> {
     pub fn into_buffer(self) -> Buffer
         ensures { result ≡ record { slot = self.slot; room = self.room } }
     {
-        let Packet {
-            slot,
-            len: _,
-            bytes,
-            meta: _,
-            places: _,
-            layer: _,
-        } = self;
-        Buffer { slot, bytes }
+        let Packet { block, layer: _ } = self;
+        Buffer { block }
     }
 }
