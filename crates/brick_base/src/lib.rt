@@ -1,8 +1,9 @@
 //! What every crate of `bricks` shares: the Internet checksum and its update, the hash of flow keys, the classes of records,
-//! the reasons of drops, want of memory, names and lists of numbers, and the trait of protocol layers.
+//! the reasons of drops, want of memory, names, lists of numbers, decimal numbers in a text, and the trait of protocol layers.
 #![tactic(auto)]
 
 mod addresses;
+mod decimal;
 mod drops;
 mod flow;
 mod hashing;
@@ -16,6 +17,7 @@ mod tests;
 mod text;
 
 pub use addresses::Prefix;
+pub use decimal::number_of;
 pub use drops::Reason;
 pub use flow::{Class, Dir, Ends};
 pub use hashing::fnv1a;

@@ -3,7 +3,6 @@ use Rattle.std.proofs.Common.{◌≡◌, ◌∙◌, true, false, cond, List, [],
 use Rattle.std.specs.List.{AllByRecursion}
 use Rattle.std.specs.List.Sorted.{IsStrictlySortedBy}
 use Rattle.std.specs.Map.{keys_of}
-use Rattle.std.specs.Option.{option_or}
 use Rattle.std.specs.String.{string_cmp}
 use Rattle.toml.specs.View.{members_view}
 use Rattle.toml.proofs.Views.{Entry}
@@ -14,10 +13,6 @@ use Rattle.chain_spec.specs.Fields.{Text, lesser, stranger}
 abbrev pub first : List Text → List Entry → Option Text
 first row [] = None
 first row (e ∷ es) = cond (is_among (string_bytes e.0) row) (first row es) (Some (string_bytes e.0))
-
-pub or_none : (o : Option Text) → option_or o None ≡ o
-or_none None = refl
-or_none (Some k) = refl
 
 -- a key below all keys is the lesser
 below : (row : List Text) (k : String Global) (es : List Entry) → AllByRecursion (λ y. string_cmp k y ≡ Less) (keys_of es)

@@ -8,8 +8,7 @@ ghost use Rattle.brick_base.specs.PrefixView.{prefix_view};
 ghost use Rattle.chain_text.specs.Written.{any_prefix_view, six_of};
 
 use crate::any_prefix::AnyPrefix;
-use crate::numbers::number_of;
-use brick_base::{NoMemory, Prefix};
+use brick_base::{NoMemory, Prefix, number_of};
 use std::alloc::{AllocError, Global};
 
 /// The text, cut at an ASCII character.
@@ -24,10 +23,10 @@ fn cut<'a>(alloc: Global, text: &'a str, at: char) -> Result<Vec<&'a str>, Alloc
 fn address_of_four(first: &str, second: &str, third: &str, fourth: &str) -> Option<u32>
     ensures { result ≡ spec.address_of_four first.now second.now third.now fourth.now }
 {
-    let a = number_of(255, first)?;
-    let b = number_of(255, second)?;
-    let c = number_of(255, third)?;
-    let d = number_of(255, fourth)?;
+    let a = number_of(255, first)? as u32;
+    let b = number_of(255, second)? as u32;
+    let c = number_of(255, third)? as u32;
+    let d = number_of(255, fourth)? as u32;
     Some(((a * 256 + b) * 256 + c) * 256 + d)
 }
 

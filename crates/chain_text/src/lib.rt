@@ -7,7 +7,6 @@ mod fault;
 mod fault_line;
 mod fields;
 mod names;
-mod numbers;
 #[cfg(test)]
 mod tests;
 mod texts;

@@ -8,7 +8,8 @@ use Rattle.clap.specs.Faults.{check_fault, defaults_fault, entered_fault, settle
 use Rattle.clap.proofs.OnLiterals.{clap_on_literals}
 use Rattle.words_spec.specs.AcceptedWords.{Inline}
 use Rattle.words_spec.specs.AcceptedWords.{command}
-use Rattle.words_spec.specs.AcceptedWords.{line_of, line_in, number, ◌>>=◌}
+use Rattle.words_spec.specs.AcceptedWords.{line_of, line_in}
+use Rattle.brick_spec.specs.Decimal.{number_of, ◌>>=◌}
 use Rattle.command_line.proofs.ClapMatches.{rows_found}
 
 -- ---- one such word, at any command
@@ -117,7 +118,7 @@ unfolding clap_on_literals
 end_fault c o = refl
 
 line_is : (c o : Text) → line_in (finished rules (held3 c o)) ≡ Some (record { mode = Inline; workers = 1; chains = c; out = o })
-unfolding clap_on_literals line_in number
+unfolding clap_on_literals line_in number_of
 line_is c o = refl
 
 -- the line that three such words are

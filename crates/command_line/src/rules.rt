@@ -6,6 +6,7 @@ ghost use Rattle.words_spec.specs.AcceptedWords as spec;
 ghost use Rattle.command_line.specs.View.{mode_view, line_view};
 
 use crate::{CommandLine, Mode};
+use brick_base::number_of;
 use clap::ArgMatches;
 
 /// The mode that a word names.
@@ -21,46 +22,12 @@ fn mode_of(text: &str) -> Option<Mode>
     }
 }
 
-/// The number with one more digit, where the character is one and the number stays below 2^64.
-fn with_digit(number: u64, character: u8) -> Option<u64>
-    ensures { result ≡ spec.with_digit number character }
-{
-    if character < b'0' || character > b'9' {
-        return None;
-    }
-    let tens = number.checked_mul(10)?;
-    tens.checked_add((character - b'0') as u64)
-}
-
-/// Whether more digits stand behind a zero.
-fn has_leading_zero(bytes: &[u8]) -> bool
-    ensures { result ≡ spec.has_leading_zero bytes.now }
-{
-    bytes.len() > 1 && bytes[0] == b'0'
-}
-
-/// The number that decimal digits spell, without sign or leading zero.
-#[tactic(auto, unfolding(words_spec::specs::AcceptedWords::number))]
-fn number(text: &str) -> Option<u64>
-    ensures { result ≡ spec.number text.now }
-{
-    let bytes = text.as_bytes();
-    if bytes.is_empty() || has_leading_zero(bytes) {
-        return None;
-    }
-    let mut number: u64 = 0;
-    for character in bytes {
-        number = with_digit(number, *character)?;
-    }
-    Some(number)
-}
-
 /// The number of workers.
 fn workers_of(text: &str) -> Option<u8>
     ensures { result ≡ spec.workers_of text.now }
 {
-    let number = number(text)?;
-    if number >= 1 && number <= 16 {
+    let number = number_of(16, text)?;
+    if number >= 1 {
         Some(number as u8)
     } else {
         None

@@ -1,7 +1,7 @@
 -- What a frame that has the IPv4 layer looks like, by its bytes.
-use Rattle.std.proofs.Common.{◌≡◌, ℕ, ◌+◌, ◌-◌, ◌*◌, ◌/◌, ◌%◌, ◌≤◌, List, length, take, drop, slice_index, get_or, nat_eq, nat_le, Bool, true, false, Option, Some, None, if◌then◌else◌, min, refl, ap, sym, ◌∙◌, arith, length-take-le, length-drop}
+use Rattle.std.proofs.Common.{◌≡◌, ℕ, ◌+◌, ◌-◌, ◌*◌, ◌/◌, ◌%◌, ◌≤◌, List, length, take, drop, slice_index, get_or, nat_le, Bool, true, false, Option, Some, None, if◌then◌else◌, min, refl, ap, sym, ◌∙◌, arith, length-take-le, length-drop}
 use Rattle.std.specs.Prelude.{option_map, option_and_then}
-use Rattle.std.proofs.lemmas.Bool.Decides.{nat_tests}
+use Rattle.std.proofs.lemmas.Bool.{eqb-true, eq-eqb, cond-true, le-leb}
 use Rattle.std.proofs.lemmas.List.{take_all, get_or-drop}
 use Rattle.brick_spec.specs.Header.{word_at}
 use Rattle.brick_spec.specs.Layer.{Layer, payload_in, ethernet_layer, ip4_length, ip4_header_bytes, ip4_total, ip4_extent, ip4_layer_in, ip4_layer}
@@ -21,12 +21,6 @@ pub record HasIp4Layer (frame : List ℕ) (l : Layer) : Type 0 where
   pub long : 34 ≤ l.middle
   pub there : l.middle ≤ length frame
   pub total : l.middle ≤ 14 + word_at frame 16
-
-eq_of_test : (m n : ℕ) → nat_eq m n ≡ true → m ≡ n
-eq_of_test m n h = grind (arith, nat_tests)
-
-test_of_eq : (m n : ℕ) → m ≡ n → nat_eq m n ≡ true
-test_of_eq m n h = grind (arith, nat_tests)
 
 -- a word and a byte behind a place
 pub word_at-drop : (bytes : List ℕ) (n at : ℕ) → word_at (drop n bytes) at ≡ word_at bytes (n + at)
@@ -49,19 +43,12 @@ mapped_from : (o : Option ℕ) (f : ℕ → Layer) (l : Layer) → option_map f 
 mapped_from None f l h = cc
 mapped_from (Some n) f l h = (n, refl, cc)
 
-if_true : (b : Bool) (m n : ℕ) → b ≡ true → (if b then m else n) ≡ m
-if_true true m n h = refl
-if_true false m n h = cc
-
-le_test : (m n : ℕ) → m ≤ n → nat_le m n ≡ true
-le_test m n h = grind (arith, nat_tests)
-
 -- where the payload of an IPv4 header of n bytes at the start of rest ends
 pub extent_is : (rest : List ℕ) (n : ℕ) → 20 ≤ n → n ≤ length rest → n ≤ ip4_total rest → ip4_extent (take n rest) (length rest) ≡ min (ip4_total rest) (length rest)
 extent_is rest n least there total =
     let cut : length (take n rest) ≡ n = length-take-le n rest there in
     let word : ip4_total (take n rest) ≡ ip4_total rest = word_at-take rest n 2 (omega arith) in
-    let given : (if nat_le 4 (length (take n rest)) then ip4_total (take n rest) else 0) ≡ ip4_total (take n rest) = if_true _ _ 0 (le_test 4 (length (take n rest)) (omega arith)) in
+    let given : (if nat_le 4 (length (take n rest)) then ip4_total (take n rest) else 0) ≡ ip4_total (take n rest) = cond-true _ _ 0 (le-leb 4 (length (take n rest)) (omega arith)) in
     omega arith
 
 pub ip4_layer_says : (frame : List ℕ) (l : Layer) → ip4_layer frame ≡ Some l → HasIp4Layer frame l
@@ -87,8 +74,8 @@ ip4_layer_says frame l h =
     let middle_is : 14 + n ≡ l.middle = ap (λ (x : Layer). x.middle) from.2 in
     let end_is : 14 + ip4_extent (take n rest) (length rest) ≡ l.end = ap (λ (x : Layer). x.end) from.2 in
     record {
-      kind = sym (word_at-take frame 14 12 (omega arith)) ∙ eq_of_test _ _ says.kind;
-      version = ap (λ b. b / 16) (sym first) ∙ eq_of_test _ _ says.version;
+      kind = sym (word_at-take frame 14 12 (omega arith)) ∙ eqb-true _ _ says.kind;
+      version = ap (λ b. b / 16) (sym first) ∙ eqb-true _ _ says.version;
       start = sym start_is;
       middle = omega arith;
       end = omega arith;
@@ -111,17 +98,17 @@ ip4_layer_given frame l h =
     let h₄ = h.middle in
     let front : length (take 14 frame) ≡ 14 = length-take-le 14 frame (omega arith) in
     let test = has_ip4_given (take 14 frame) rest (record {
-      frame = le_test 14 (length (take 14 frame)) (omega arith);
-      kind = test_of_eq _ _ (word_at-take frame 14 12 (omega arith) ∙ h.kind);
+      frame = le-leb 14 (length (take 14 frame)) (omega arith);
+      kind = eq-eqb _ _ (word_at-take frame 14 12 (omega arith) ∙ h.kind);
       least = omega arith;
-      version = test_of_eq _ _ (ap (λ b. b / 16) first ∙ h.version);
+      version = eq-eqb _ _ (ap (λ b. b / 16) first ∙ h.version);
       long = omega arith;
       there = omega arith;
       total = omega arith;
     }) in
     let place : ℕ → Layer = λ n. record { start = 14; middle = 14 + n; end = 14 + ip4_extent (take n rest) (length rest) } in
     let ethernet : ethernet_layer frame ≡ Some (ethernet_at frame) =
-    ap (λ b. option_map (λ n. record { start = 0; middle = n; end = length frame }) (if b then Some 14 else None)) (le_test 14 (length frame) (omega arith)) in
+    ap (λ b. option_map (λ n. record { start = 0; middle = n; end = length frame }) (if b then Some 14 else None)) (le-leb 14 (length frame) (omega arith)) in
     let extent = extent_is rest n (omega arith) (omega arith) (omega arith) in
     let start : 14 ≡ l.start = sym h.start in
     let middle : 14 + n ≡ l.middle = omega arith in

@@ -1,6 +1,7 @@
 -- What holds of the lengths and ends of the Ethernet and the IPv4 layer.
-use Rattle.std.specs.Prelude.{ℕ, ◌≡◌, ◌+◌, ◌*◌, ◌/◌, ◌%◌, ◌≤◌, ◌<◌, nat_le, nat_eq, ◌&&◌, Bool, true, false, List, length, take, slice_index, Some, None, if◌then◌else◌, refl}
+use Rattle.std.specs.Prelude.{ℕ, ◌≡◌, ◌+◌, ◌*◌, ◌/◌, ◌%◌, ◌≤◌, ◌<◌, nat_le, nat_eq, Bool, true, false, List, length, take, slice_index, Some, None, if◌then◌else◌, refl}
 use Rattle.std.proofs.Common.{arith, ap, sym, ◌∙◌}
+use Rattle.std.proofs.lemmas.Bool.{and_parts, and_from, leb-true, le-leb}
 use Rattle.std.proofs.lemmas.Bool.Decides.{nat_tests}
 use Rattle.std.proofs.lemmas.List.{get_or-take, get_or-drop, length-take-le}
 use Rattle.brick_spec.specs.Header.{word_at}
@@ -23,19 +24,6 @@ pub within_if : (b : Bool) (least m there : ℕ) → (b ≡ true → (least ≤ 
 within_if true least m there h = h refl
 within_if false least m there h = tt
 
-pub both : (a b : Bool) → (a && b) ≡ true → (a ≡ true) × (b ≡ true)
-both true b h = (refl, h)
-both false b h = cc
-
-pub and_true : (a b : Bool) → a ≡ true → b ≡ true → (a && b) ≡ true
-and_true a b h k = ap (λ c. c && b) h ∙ k
-
-pub le_of_test : (m n : ℕ) → nat_le m n ≡ true → m ≤ n
-le_of_test m n h = grind (arith, nat_tests)
-
-pub test_of_le : (m n : ℕ) → m ≤ n → nat_le m n ≡ true
-test_of_le m n h = grind (arith, nat_tests)
-
 -- ETHERNET
 
 pub ethernet_length_fits : (rest : List ℕ) → IsLengthWithin 14 (ethernet_length rest) (length rest)
@@ -44,7 +32,7 @@ ethernet_length_fits rest = within_if (nat_le 14 (length rest)) 14 14 (length re
 pub ethernet_length-take : (rest : List ℕ) (n : ℕ) → ethernet_length rest ≡ Some n → ethernet_length (take n rest) ≡ Some n
 ethernet_length-take rest n h =
     let given = some_if (nat_le 14 (length rest)) 14 n h in
-    let long : 14 ≤ length rest = le_of_test 14 (length rest) given.0 in
+    let long : 14 ≤ length rest = leb-true 14 (length rest) given.0 in
     let e = given.1 in
     let cut : length (take n rest) ≡ n = length-take-le n rest (omega arith) in
     grind (arith, nat_tests)
@@ -63,17 +51,17 @@ pub record HasIp4 (outer rest : List ℕ) : Type 0 where
 
 pub has_ip4_says : (outer rest : List ℕ) → has_ip4 outer rest ≡ true → HasIp4 outer rest
 has_ip4_says outer rest h =
-    let h₁ = both _ _ h in
-    let h₂ = both _ _ h₁.1 in
-    let h₃ = both _ _ h₂.1 in
-    let h₄ = both _ _ h₃.1 in
-    let h₅ = both _ _ h₄.1 in
-    let h₆ = both _ _ h₅.1 in
-    record { frame = h₁.0; kind = h₂.0; least = le_of_test _ _ h₃.0; version = h₄.0; long = le_of_test _ _ h₅.0; there = le_of_test _ _ h₆.0; total = le_of_test _ _ h₆.1 }
+    let h₁ = and_parts _ _ h in
+    let h₂ = and_parts _ _ h₁.1 in
+    let h₃ = and_parts _ _ h₂.1 in
+    let h₄ = and_parts _ _ h₃.1 in
+    let h₅ = and_parts _ _ h₄.1 in
+    let h₆ = and_parts _ _ h₅.1 in
+    record { frame = h₁.0; kind = h₂.0; least = leb-true _ _ h₃.0; version = h₄.0; long = leb-true _ _ h₅.0; there = leb-true _ _ h₆.0; total = leb-true _ _ h₆.1 }
 
 pub has_ip4_given : (outer rest : List ℕ) → HasIp4 outer rest → has_ip4 outer rest ≡ true
 has_ip4_given outer rest h =
-    and_true _ _ h.frame (and_true _ _ h.kind (and_true _ _ (test_of_le _ _ h.least) (and_true _ _ h.version (and_true _ _ (test_of_le _ _ h.long) (and_true _ _ (test_of_le _ _ h.there) (test_of_le _ _ h.total))))))
+    and_from _ _ h.frame (and_from _ _ h.kind (and_from _ _ (le-leb _ _ h.least) (and_from _ _ h.version (and_from _ _ (le-leb _ _ h.long) (and_from _ _ (le-leb _ _ h.there) (le-leb _ _ h.total))))))
 
 -- where a length is given, the layer is there, and the length is its header's
 pub ip4_length_says : (outer rest : List ℕ) (n : ℕ) → ip4_length outer rest ≡ Some n → HasIp4 outer rest × (ip4_header_bytes rest ≡ n)

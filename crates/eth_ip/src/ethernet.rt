@@ -6,8 +6,8 @@ ghost use Rattle.brick_spec.specs.Layer.{ethernet_length, ethernet_destination, 
 ghost use Rattle.brick_spec.specs.Edit.{with_ethernet_destination, with_ethernet_source};
 ghost use Rattle.eth_ip.specs.LayerLaws.{ethernet_length_fits, ethernet_length-take};
 
+use crate::words::read_word;
 use brick_base::{Proto, Raw};
-use byteorder::{BigEndian, ByteOrder};
 
 /// The Ethernet II layer, at the front of a frame: destination in 6 bytes, source in 6, type in 2. Its payload goes to the
 /// frame's end.
@@ -71,7 +71,7 @@ pub fn ethernet_kind(header: &[u8]) -> u16
     requires { 14 ≤ length header.now }
     ensures { result ≡ ethernet_type header.now }
 {
-    BigEndian::read_u16(&header[12..])
+    read_word(header, 12)
 }
 
 /// Sets the destination of a header.
@@ -147,25 +147,32 @@ impl<'a> EthMut<'a> {
         EthMut { header }
     }
 
+    /// The same header, for reading.
+    pub fn as_view(&self) -> EthView<'_>
+        ensures { result.header.now ≡ self.now.header.now }
+    {
+        EthView::of(self.header)
+    }
+
     /// The destination.
     pub fn dst(&self) -> [u8; 6]
         ensures { result ≡ ethernet_destination self.now.header.now }
     {
-        ethernet_destination(self.header)
+        self.as_view().dst()
     }
 
     /// The source.
     pub fn src(&self) -> [u8; 6]
         ensures { result ≡ ethernet_source self.now.header.now }
     {
-        ethernet_source(self.header)
+        self.as_view().src()
     }
 
     /// The type: the protocol in the payload.
     pub fn kind(&self) -> u16
         ensures { result ≡ ethernet_type self.now.header.now }
     {
-        ethernet_kind(self.header)
+        self.as_view().kind()
     }
 
     /// Sets the destination.

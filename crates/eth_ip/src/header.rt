@@ -3,8 +3,9 @@
 ghost use Rattle.std.specs.Prelude.{◌≡◌, ℕ, ◌+◌, ◌≤◌, ◌↔◌, IsTrue, length};
 ghost use Rattle.brick_spec.specs.Header.{word_at, number_at};
 ghost use Rattle.brick_spec.specs.Layer.{ip4_total, tos_of, ident_of, more_fragments, fragment_offset, ttl_of, protocol_of, source_of, destination_of};
-ghost use Rattle.brick_spec.specs.Edit.{ip4_edited, with_tos, with_ttl, with_source, with_destination, ip4_checksum, IsIp4Right, with_total};
+ghost use Rattle.brick_spec.specs.Edit.{with_tos, with_ttl, with_source, with_destination, ip4_checksum, IsIp4Right, with_total};
 
+use crate::words::{edit_word, read_word, write_word};
 use brick_base::{adjust, checksum};
 use byteorder::{BigEndian, ByteOrder};
 
@@ -105,7 +106,7 @@ pub fn set_header_tos(header: &mut [u8], tos: u8)
     ensures { header.new ≡ with_tos header.old tos }
 {
     let first = header[0];
-    edit_word(header, 0, first as u16 * 256 + tos as u16);
+    edit_word(header, 10, 0, first as u16 * 256 + tos as u16);
 }
 
 /// Sets the time to live of a header, and adjusts its checksum for that (RFC 1624, equation 3). The old checksum need not be
@@ -115,7 +116,7 @@ pub fn set_header_ttl(header: &mut [u8], ttl: u8)
     ensures { header.new ≡ with_ttl header.old ttl }
 {
     let protocol = header_protocol(header);
-    edit_word(header, 8, ttl as u16 * 256 + protocol as u16);
+    edit_word(header, 10, 8, ttl as u16 * 256 + protocol as u16);
 }
 
 /// Sets the source of a header, and adjusts its checksum for that, word by word (RFC 1624, equation 3). The old checksum need
@@ -124,8 +125,8 @@ pub fn set_header_source(header: &mut [u8], address: u32)
     requires { 20 ≤ length header.old }
     ensures { header.new ≡ with_source header.old address }
 {
-    edit_word(header, 12, (address / 65536) as u16);
-    edit_word(header, 14, (address % 65536) as u16);
+    edit_word(header, 10, 12, (address / 65536) as u16);
+    edit_word(header, 10, 14, (address % 65536) as u16);
 }
 
 /// Sets the destination of a header, and adjusts its checksum for that, word by word (RFC 1624, equation 3). The old checksum
@@ -134,8 +135,8 @@ pub fn set_header_destination(header: &mut [u8], address: u32)
     requires { 20 ≤ length header.old }
     ensures { header.new ≡ with_destination header.old address }
 {
-    edit_word(header, 16, (address / 65536) as u16);
-    edit_word(header, 18, (address % 65536) as u16);
+    edit_word(header, 10, 16, (address / 65536) as u16);
+    edit_word(header, 10, 18, (address % 65536) as u16);
 }
 
 /// Sets the total length of a header, and computes its checksum anew (RFC 791, section 3.1).
@@ -143,9 +144,9 @@ pub fn set_header_total(header: &mut [u8], total: u16)
     requires { 20 ≤ length header.old }
     ensures { header.new ≡ with_total header.old total }
 {
-    BigEndian::write_u16(&mut header[2..], total);
+    write_word(header, 2, total);
     let right = right_checksum(header);
-    BigEndian::write_u16(&mut header[10..], right);
+    write_word(header, 10, right);
 }
 
 /// The checksum that is right: the sum of the words before it and behind it.
@@ -156,24 +157,4 @@ fn right_checksum(header: &[u8]) -> u16
     let front = checksum(&header[..10]);
     let back = checksum(&header[12..]);
     adjust(front, 65535, 65535 - back)
-}
-
-/// The word at a place, the high byte first.
-fn read_word(header: &[u8], at: usize) -> u16
-    requires { at + 2 ≤ length header.now }
-    ensures { result ≡ word_at header.now at }
-{
-    BigEndian::read_u16(&header[at..])
-}
-
-/// Sets the word at a place, and adjusts the checksum for that.
-fn edit_word(header: &mut [u8], at: usize, word: u16)
-    requires long { 12 ≤ length header.old }
-    requires within { at + 2 ≤ length header.old }
-    ensures { header.new ≡ ip4_edited header.old at word }
-{
-    let old = read_word(header, at);
-    let checksum = read_word(header, 10);
-    BigEndian::write_u16(&mut header[at..], word);
-    BigEndian::write_u16(&mut header[10..], adjust(checksum, old, word));
 }

@@ -5,8 +5,8 @@ ghost use Rattle.brick_spec.specs.Layer.{ip4_length, ip4_extent};
 ghost use Rattle.eth_ip.specs.LayerLaws.{ip4_length_fits, ip4_length-take, ip4_extent_fits};
 
 use crate::ethernet::Eth;
+use crate::words::read_word;
 use brick_base::Proto;
-use byteorder::{BigEndian, ByteOrder};
 
 /// The IPv4 layer, in the payload of an Ethernet frame of type 0800. Its payload goes to the total length, or to where the
 /// captured bytes end, whichever comes first.
@@ -29,12 +29,12 @@ impl Proto for Ip4 {
     const LEAST: usize = 20;
 
     fn length(outer: &[u8], rest: &[u8]) -> Option<usize> {
-        if outer.len() < 14 || rest.len() < 20 || BigEndian::read_u16(&outer[12..]) != 0x0800 {
+        if outer.len() < 14 || rest.len() < 20 || read_word(outer, 12) != 0x0800 {
             return None;
         }
         let version = rest[0] / 16;
         let length = rest[0] as usize % 16 * 4;
-        let total = BigEndian::read_u16(&rest[2..]) as usize;
+        let total = read_word(rest, 2) as usize;
         if version == 4 && 20 <= length && length <= rest.len() && length <= total {
             Some(length)
         } else {
@@ -44,7 +44,7 @@ impl Proto for Ip4 {
 
     fn extent(header: &[u8], room: usize) -> usize {
         let total = if header.len() >= 4 {
-            BigEndian::read_u16(&header[2..]) as usize
+            read_word(header, 2) as usize
         } else {
             0
         };

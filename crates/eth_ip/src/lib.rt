@@ -11,6 +11,7 @@ mod laws;
 #[cfg(test)]
 mod tests;
 mod view;
+mod words;
 
 pub use ethernet::{
     Eth, EthMut, EthView, ethernet_destination, ethernet_kind, ethernet_source,
@@ -25,3 +26,4 @@ pub use header::{
 pub use internet::Ip4;
 pub use laws::edits_keep_right;
 pub use view::{Ip4Mut, Ip4View};
+pub use words::{edit_word, read_word, write_word};

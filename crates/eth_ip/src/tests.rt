@@ -3,13 +3,7 @@ ghost use Rattle.brick_spec.specs.Edit.{ttl_of, with_ttl};
 
 use crate::{Eth, EthMut, EthView, Ip4, Ip4Mut, Ip4View, edits_keep_right};
 use brick_base::Proto;
-
-/// UDP from 10.0.0.1:1000 to 10.1.2.3:53 with the payload `ping`.
-const FRAME: [u8; 46] = [
-    0x02, 0x00, 0x00, 0x00, 0x00, 0x01, 0x02, 0x00, 0x00, 0x00, 0x00, 0x02, 0x08, 0x00, 0x45, 0x00,
-    0x00, 0x20, 0x00, 0x00, 0x40, 0x00, 0x40, 0x11, 0x24, 0xc9, 0x0a, 0x00, 0x00, 0x01, 0x0a, 0x01,
-    0x02, 0x03, 0x03, 0xe8, 0x00, 0x35, 0x00, 0x0c, 0x06, 0xe4, 0x70, 0x69, 0x6e, 0x67,
-];
+use test_frames::{CUT, PING};
 
 /// An IPv4 header of 20 bytes.
 const HEADER: [u8; 20] = [
@@ -63,8 +57,8 @@ fn length_of<P: Proto>(outer: &[u8], rest: &[u8]) -> Option<usize> {
 
 #[test]
 fn lengths(rt: HostRuntime) {
-    assert_eq!(rt; length_of::<Eth>(&[], &FRAME[..13]), None);
-    assert_eq!(rt; length_of::<Eth>(&[], &FRAME[..14]), Some(14));
+    assert_eq!(rt; length_of::<Eth>(&[], &PING[..13]), None);
+    assert_eq!(rt; length_of::<Eth>(&[], &PING[..14]), Some(14));
     // The place and the value of the byte that is changed: IHL 4, version 6, IHL 15, total length 19, type 0806.
     let rows = [
         (14, 0x45, Some(20)),
@@ -77,17 +71,17 @@ fn lengths(rt: HostRuntime) {
     ];
     for (place, value, want) in rows {
         assert!(rt; place < 46);
-        let mut frame = FRAME;
+        let mut frame = PING;
         frame[place] = value;
         let length = length_of::<Ip4>(&frame[..14], &frame[14..]);
         assert_eq!(rt; length, want, "{value} at {place}");
     }
-    assert_eq!(rt; length_of::<Ip4>(&FRAME[..14], &FRAME[14..33]), None);
+    assert_eq!(rt; length_of::<Ip4>(&PING[..14], &PING[14..33]), None);
 }
 
 #[test]
 fn extents(rt: HostRuntime) {
-    assert_eq!(rt; Eth::extent(&FRAME[..14], 46), 46);
+    assert_eq!(rt; Eth::extent(&PING[..14], 46), 46);
     // The total length, how many bytes are there, and where the payload ends.
     let rows = [(32, 32, 32), (40, 46, 40), (32, 26, 26), (19, 32, 20)];
     for (total, room, want) in rows {
@@ -133,12 +127,9 @@ fn internet_fields(rt: HostRuntime) {
 
 #[test]
 fn address_edits(rt: HostRuntime) {
-    // The header of the cut frame that is translated to 203.0.113.1.
-    let mut header = [
-        0x45, 0x00, 0x05, 0xdc, 0x00, 0x00, 0x40, 0x00, 0x40, 0x06, 0x00, 0xe6, 0x0a, 0x00, 0x00,
-        0x01, 0xc6, 0x33, 0x64, 0x02,
-    ];
-    let mut ip4 = Ip4Mut::of(&mut header);
+    // The cut frame, translated to 203.0.113.1.
+    let mut frame = CUT;
+    let mut ip4 = Ip4Mut::of(&mut frame[14..34]);
     ip4.set_src(0xcb00_7101);
     assert_eq!(rt; (ip4.src(), ip4.stored()), (0xcb00_7101, 0xcee4));
 }

@@ -129,81 +129,88 @@ impl<'a> Ip4Mut<'a> {
         Ip4Mut { header }
     }
 
+    /// The same header, for reading.
+    pub fn as_view(&self) -> Ip4View<'_>
+        ensures { result.header.now ≡ self.now.header.now }
+    {
+        Ip4View::of(self.header)
+    }
+
     /// The type of service.
     pub fn tos(&self) -> u8
         ensures { result ≡ tos_of self.now.header.now }
     {
-        header_tos(self.header)
+        self.as_view().tos()
     }
 
     /// The total length: the bytes of the header and of the payload.
     pub fn total(&self) -> u16
         ensures { result ≡ ip4_total self.now.header.now }
     {
-        header_total(self.header)
+        self.as_view().total()
     }
 
     /// The identification, which the fragments of one datagram share.
     pub fn ident(&self) -> u16
         ensures { result ≡ ident_of self.now.header.now }
     {
-        header_ident(self.header)
+        self.as_view().ident()
     }
 
     /// Whether further fragments of the datagram follow.
     pub fn more_fragments(&self) -> bool
         ensures { result ≡ more_fragments self.now.header.now }
     {
-        header_more_fragments(self.header)
+        self.as_view().more_fragments()
     }
 
     /// Where in its datagram the payload stands, in units of 8 bytes.
     pub fn fragment_offset(&self) -> u16
         ensures { result ≡ fragment_offset self.now.header.now }
     {
-        header_fragment_offset(self.header)
+        self.as_view().fragment_offset()
     }
 
     /// The time to live.
     pub fn ttl(&self) -> u8
         ensures { result ≡ ttl_of self.now.header.now }
     {
-        header_ttl(self.header)
+        self.as_view().ttl()
     }
 
     /// The number of the protocol in the payload.
     pub fn protocol(&self) -> u8
         ensures { result ≡ protocol_of self.now.header.now }
     {
-        header_protocol(self.header)
+        self.as_view().protocol()
     }
 
     /// The source, in network order as a number.
     pub fn src(&self) -> u32
         ensures { result ≡ source_of self.now.header.now }
     {
-        header_source(self.header)
+        self.as_view().src()
     }
 
     /// The destination, in network order as a number.
     pub fn dst(&self) -> u32
         ensures { result ≡ destination_of self.now.header.now }
     {
-        header_destination(self.header)
+        self.as_view().dst()
     }
 
     /// The checksum that stands there.
     pub fn stored(&self) -> u16
         ensures { result ≡ word_at self.now.header.now 10 }
     {
-        header_checksum(self.header)
+        self.as_view().stored()
     }
 
     /// Whether that checksum is right (RFC 791, section 3.1).
     pub fn header_ok(&self) -> bool
         ensures { IsTrue result ↔ IsIp4Right self.now.header.now }
     {
-        is_header_ok(self.header)
+        self.as_view().header_ok()
     }
 
     /// Sets the type of service, and adjusts the checksum for that (RFC 1624, equation 3). The old checksum need not be right.

@@ -10,7 +10,7 @@ use Rattle.std.proofs.lemmas.List.{get_or_append_left, get_or_push, length_push}
 use Rattle.std.proofs.lemmas.List.Sums.{sum_by_push, prefix_len-le-length}
 use Rattle.std.proofs.lemmas.List.Folds.{position_or_len_push}
 use Rattle.std.proofs.lemmas.Option.{slice_get_within, same_Some, none-some, slice_get-get_or}
-use Rattle.std.proofs.lemmas.Bool.{cases_lt}
+use Rattle.std.proofs.lemmas.Bool.{cases_lt, and_parts, eqb-true}
 use Rattle.std.proofs.lemmas.Bool.Decides.{nat_tests}
 use Rattle.flow_key.specs.declared.key.Key.{Key}
 use Rattle.flow_key.specs.declared.key.End.{End}
@@ -18,6 +18,7 @@ use Rattle.brick_spec.specs.Tuple.{Tuple}
 use Rattle.brick_spec.specs.FlowClass.{Opened, End as SpecEnd, Key as SpecKey, key_of, is_same_key, is_same_end, flow_at, has_first_key, has_key, is_other_flow, is_ranked, same_key_of, found_by}
 use Rattle.flow_key.specs.View.{end_view, key_view}
 use Rattle.flow_key.specs.Maps.{AreRanks, AreFound, key_cmp, end_cmp}
+use Rattle.brick_spec.proofs.Tests.{option_or-none}
 
 push_numbers : (a n : ℕ) (b : Bool) → a ≤ n → cond {A = Option ℕ} (ltb (cond (eqb a n) (n + cond b 0 1) a) (n + 1)) (Some (cond (eqb a n) (n + cond b 0 1) a)) None ≡ option_or (cond (ltb a n) (Some a) None) (cond b (Some n) None)
 push_numbers a n true few = ⊎_elim
@@ -35,32 +36,21 @@ position_push p xs y =
     ∙ ap (λ (m : ℕ). cond {A = Option ℕ} (ltb m (length xs + 1)) (Some m) None) (position_or_len_push p xs y)
     ∙ push_numbers (position_or_len p xs) (length xs) (p y) (prefix_len-le-length (λ x. not (p x)) xs)
 
-both : (a b : Bool) → (a && b) ≡ true → (a ≡ true) × (b ≡ true)
-both true b e = (refl, e)
-both false b e = absurd (cc)
-
-number_same : (a b : ℕ) → eqb a b ≡ true → a ≡ b
-number_same a b e = grind (arith, nat_tests)
-
 same_ends : (a b : SpecEnd) → is_same_end a b ≡ true → a ≡ b
 same_ends a b e =
-    let h = both (eqb a.address b.address) (eqb a.port b.port) e in
+    let h = and_parts (eqb a.address b.address) (eqb a.port b.port) e in
     let f : ℕ → SpecEnd = λ n. record { address = n; port = a.port } in
     let g : ℕ → SpecEnd = λ n. record { address = b.address; port = n } in
-    ap f (number_same a.address b.address h.0) ∙ ap g (number_same a.port b.port h.1)
+    ap f (eqb-true a.address b.address h.0) ∙ ap g (eqb-true a.port b.port h.1)
 
 same_keys_one : (a b : SpecKey) → is_same_key a b ≡ true → a ≡ b
 same_keys_one a b e =
-    let h = both (nat_eq a.proto b.proto) (is_same_end a.low b.low && is_same_end a.high b.high) e in
-    let k = both (is_same_end a.low b.low) (is_same_end a.high b.high) h.1 in
+    let h = and_parts (nat_eq a.proto b.proto) (is_same_end a.low b.low && is_same_end a.high b.high) e in
+    let k = and_parts (is_same_end a.low b.low) (is_same_end a.high b.high) h.1 in
     let f : ℕ → SpecKey = λ n. record { proto = n; low = a.low; high = a.high } in
     let g : SpecEnd → SpecKey = λ n. record { proto = b.proto; low = n; high = a.high } in
     let i : SpecEnd → SpecKey = λ n. record { proto = b.proto; low = b.low; high = n } in
-    ap f (number_same a.proto b.proto h.0) ∙ ap g (same_ends a.low b.low k.0) ∙ ap i (same_ends a.high b.high k.1)
-
-or_none : (o : Option ℕ) → option_or o None ≡ o
-or_none None = refl
-or_none (Some n) = refl
+    ap f (eqb-true a.proto b.proto h.0) ∙ ap g (same_ends a.low b.low k.0) ∙ ap i (same_ends a.high b.high k.1)
 
 -- rules 1 and 2 don't apply
 pub none_same : (o s : Option ℕ) (flows : List Opened) (t : Option Tuple) → found_by o s flows t ≡ None → s ≡ None
@@ -80,7 +70,7 @@ key_more flows t new q found first none e =
           ∙ ap (λ b. option_or None (cond {A = Option ℕ} b (Some (length flows)) None)) (ap (has_first_key q) first ∙ h))
       | false ↦ λ h. e ∙ sym (position_push (has_key q) flows new
           ∙ ap (λ b. option_or (position (has_key q) flows) (cond {A = Option ℕ} b (Some (length flows)) None)) (ap (has_first_key q) first ∙ h)
-          ∙ or_none (position (has_key q) flows))
+          ∙ option_or-none (position (has_key q) flows))
     ] refl
 
 other_more : (flows : List Opened) (t : Option Tuple) (new : Opened) (other : Option ℕ) → new.first ≡ t → same_key_of flows t ≡ None → other ≡ position is_other_flow flows → cond (is_none t) (Some (length flows)) other ≡ position is_other_flow (flows ++ new ∷ [])
@@ -91,7 +81,7 @@ other_more flows None new other first none e =
 other_more flows (Some t) new other first none e =
     e ∙ sym (position_push is_other_flow flows new
     ∙ ap (λ (f : Option Tuple). option_or (position is_other_flow flows) (cond {A = Option ℕ} (is_none f) (Some (length flows)) None)) first
-    ∙ or_none (position is_other_flow flows))
+    ∙ option_or-none (position is_other_flow flows))
 
 flow_below : (flows : List Opened) (new : Opened) (i : ℕ) → i < length flows → flow_at (flows ++ new ∷ []) i ≡ flow_at flows i
 flow_below flows new i below = get_or_append_left flows (new ∷ []) (record { first = None; rank = None; opened = 0 }) i below

@@ -5,7 +5,6 @@ use native.Mathlib.Decide.{dec_le}
 use lib.ListN.{get_elem?}
 use Rattle.std.proofs.lemmas.Bool.Decides.{eqb_tells}
 use Rattle.std.specs.List.{remove}
-use Rattle.std.specs.Prelude.{if◌then◌else◌}
 use Rattle.lane_spec.specs.Counts.{total, times, without}
 use Rattle.lane_core.proofs.Counting.{times_here, times_else, times_append, times_without, times_without_else, length_without, without_here, without_next}
 

@@ -1,7 +1,7 @@
 -- The row that a scan finds is the chosen one, and right rows have only one.
-use Rattle.std.proofs.Common.{◌≡◌, ◌∙◌, ℕ, ◌<◌, ◌≤◌, Bool, true, false, ◌&&◌, not, nat_lt, refl, sym, ap, arith, List, Option, Some, None, length, map}
+use Rattle.std.proofs.Common.{◌≡◌, ◌∙◌, ℕ, ◌<◌, Bool, true, false, ◌&&◌, not, nat_lt, refl, sym, ap, arith, List, Option, Some, None, length, map}
+use Rattle.std.proofs.lemmas.Bool.{and_from, le-ltb, lt-ltb}
 use Rattle.std.specs.List.{slice_get, list_any}
-use Rattle.std.proofs.lemmas.Bool.Decides.{nat_tests}
 use Rattle.std.proofs.lemmas.List.Folds.{list_any_at}
 use Rattle.std.proofs.lemmas.Option.{slice_get_within, get_or_from_slice_get}
 use Rattle.brick_spec.specs.Route as spec
@@ -18,21 +18,12 @@ and_false : (a b : Bool) → (a ≡ true → b ≡ false) → (a && b) ≡ false
 and_false true b h = h refl
 and_false false b h = refl
 
-and_true : (a b : Bool) → a ≡ true → b ≡ true → (a && b) ≡ true
-and_true a b h k = ap (λ c. c && b) h ∙ k
-
-not_less : (m n : ℕ) → n ≤ m → nat_lt m n ≡ false
-not_less m n h = grind (arith, nat_tests)
-
-less : (m n : ℕ) → m < n → nat_lt m n ≡ true
-less m n h = grind (arith, nat_tests)
-
 -- no containing prefix is longer than that of the best row
 best_is_longest : (rows : List Route) (addr r : ℕ) (b : IsBest rows addr (length rows) r) → spec.is_longest (map route_view rows) addr (route_view b.row) ≡ true
 best_is_longest rows addr r b =
-    and_true _ _ b.here (ap not (any_none (is_longer addr b.row.bits) (map route_view rows) (λ k y at.
+    and_from _ _ b.here (ap not (any_none (is_longer addr b.row.bits) (map route_view rows) (λ k y at.
     let found = mapped_get route_view rows k y at in
-    and_false _ _ (λ leads. not_less b.row.bits y.to.bits (
+    and_false _ _ (λ leads. le-ltb b.row.bits y.to.bits (
     let e = found.2 in
     let bits : found.0.bits ≡ y.to.bits = ap (λ (x : spec.Route). x.to.bits) e in
     let most = b.longest k found.0 (slice_get_within rows k found.0 found.1) found.1 (ap (spec.leads_to addr) e ∙ leads) in
@@ -45,7 +36,7 @@ earlier_is_not rows addr r b k y before at =
     and_false _ _ (λ leads. ap not (list_any_at (is_longer addr y.bits) (map route_view rows) r (route_view b.row)
     (slice_get_within (map route_view rows) r (route_view b.row) (get_mapped route_view rows r b.row b.there))
     (ap (is_longer addr y.bits) (get_or_from_slice_get (map route_view rows) r (route_view b.row) (route_view b.row) (get_mapped route_view rows r b.row b.there))
-    ∙ and_true _ _ b.here (less y.bits b.row.bits (b.earliest k y before at leads)))))
+    ∙ and_from _ _ b.here (lt-ltb y.bits b.row.bits (b.earliest k y before at leads)))))
 
 pub chosen : (rows : List Route) (addr : ℕ) (best : Option ℕ) → Best rows addr (length rows) best → best ≡ spec.route_of (map route_view rows) addr
 chosen rows addr None none =

@@ -1,8 +1,8 @@
 -- Right rows have one longest prefix for an address.
-use Rattle.std.proofs.Common.{◌≡◌, ◌∙◌, ℕ, ◌-◌, ◌*◌, ◌/◌, ◌%◌, ◌^◌, ◌<◌, ◌≤◌, Bool, true, false, ◌&&◌, not, cond, ltb, nat_eq, nat_lt, refl, sym, ap, arith, inl, inr, List, Option, Some, None, length, take, get_or}
+use Rattle.std.proofs.Common.{◌≡◌, ◌∙◌, ℕ, ◌-◌, ◌*◌, ◌/◌, ◌%◌, ◌^◌, ◌<◌, ◌≤◌, Bool, true, false, ◌&&◌, cond, ltb, nat_eq, nat_lt, refl, sym, ap, arith, inl, inr, List, Option, Some, None, length, take, get_or}
 use Rattle.std.specs.List.{slice_get, position, position_or_len}
 use Rattle.std.proofs.lemmas.Nat.{div-add-mod'}
-use Rattle.std.proofs.lemmas.Bool.{cases_lt}
+use Rattle.std.proofs.lemmas.Bool.{cases_lt, eqb-true, and_parts, not-true}
 use Rattle.std.proofs.lemmas.Bool.Decides.{nat_tests}
 use Rattle.std.proofs.lemmas.List.{get_or-take, length-take-le}
 use Rattle.std.proofs.lemmas.List.Folds.{list_any_at}
@@ -42,17 +42,14 @@ whole n s e = sym (let d = div-add-mod' n s in omega arith)
 no_rest : (n s : ℕ) → nat_lt 0 (n % s) ≡ false → n % s ≡ 0
 no_rest n s e = grind (arith, nat_tests)
 
-number_same : (a b : ℕ) → nat_eq a b ≡ true → a ≡ b
-number_same a b e = grind (arith, nat_tests)
-
 -- two prefixes of one length that contain one address are the same
 same_address : (p q : Prefix) (addr : ℕ) → has_host_bits p ≡ false → has_host_bits q ≡ false
     → nat_eq (addr / 2 ^ (32 - p.bits)) (p.addr / 2 ^ (32 - p.bits)) ≡ true → nat_eq (addr / 2 ^ (32 - q.bits)) (q.addr / 2 ^ (32 - q.bits)) ≡ true → p.bits ≡ q.bits → p.addr ≡ q.addr
 same_address p q addr hp hq cp cq e =
     whole p.addr (2 ^ (32 - p.bits)) (no_rest p.addr (2 ^ (32 - p.bits)) hp)
-    ∙ ap (λ n. n * 2 ^ (32 - p.bits)) (sym (number_same _ _ cp))
+    ∙ ap (λ n. n * 2 ^ (32 - p.bits)) (sym (eqb-true _ _ cp))
     ∙ ap (λ n. addr / 2 ^ (32 - n) * 2 ^ (32 - n)) e
-    ∙ ap (λ n. n * 2 ^ (32 - q.bits)) (number_same _ _ cq)
+    ∙ ap (λ n. n * 2 ^ (32 - q.bits)) (eqb-true _ _ cq)
     ∙ sym (whole q.addr (2 ^ (32 - q.bits)) (no_rest q.addr (2 ^ (32 - q.bits)) hq))
 
 same_prefix : (p : Prefix) (row : Route) → p.addr ≡ row.to.addr → p.bits ≡ row.to.bits → is_same_prefix p row ≡ true
@@ -61,20 +58,12 @@ same_prefix p row e f =
     let t2 : nat_eq p.bits row.to.bits ≡ true = grind (arith, nat_tests) in
     ap (λ b. b && nat_eq p.bits row.to.bits) t1 ∙ t2
 
-both : (a b : Bool) → (a && b) ≡ true → (a ≡ true) × (b ≡ true)
-both true b h = (refl, h)
-both false b h = cc
-
-not_true : (b : Bool) → not b ≡ true → b ≡ false
-not_true true h = cc
-not_true false h = refl
-
 -- of two longest rows, neither is longer
 at_most : (rows : List Route) (addr b : ℕ) (x y : Route) → slice_get rows b ≡ Some y → is_longest rows addr x ≡ true → leads_to addr y ≡ true → y.to.bits ≤ x.to.bits
 at_most rows addr b x y at h leads =
     elim (cases_lt x.to.bits y.to.bits) [
       | inl longer ↦ absurd (
-          let none = not_true _ (both _ _ h).1 in
+          let none = not-true _ (and_parts _ _ h).1 in
           let t : nat_lt x.to.bits y.to.bits ≡ true = grind (arith, nat_tests) in
           let passes : (leads_to addr y && nat_lt x.to.bits y.to.bits) ≡ true = ap (λ b. b && nat_lt x.to.bits y.to.bits) leads ∙ t in
           let some = list_any_at (λ other. leads_to addr other && nat_lt x.to.bits other.to.bits) rows b y (slice_get_within rows b y at)
@@ -87,8 +76,8 @@ at_most rows addr b x y at h leads =
 not_later : (rows : List Route) (addr a b : ℕ) (x y : Route) → AreRight rows → slice_get rows a ≡ Some x → slice_get rows b ≡ Some y
     → is_longest rows addr x ≡ true → is_longest rows addr y ≡ true → a < b → ⊥
 not_later rows addr a b x y right ea eb hx hy less =
-    let cx = (both _ _ hx).0 in
-    let cy = (both _ _ hy).0 in
+    let cx = (and_parts _ _ hx).0 in
+    let cy = (and_parts _ _ hy).0 in
     let l1 = at_most rows addr b x y eb hx cy in
     let l2 = at_most rows addr a y x ea hy cx in
     let bits : y.to.bits ≡ x.to.bits = omega arith in

@@ -1,6 +1,5 @@
 -- A translation leaves the IPv4 layer of a frame where it is.
-use Rattle.std.proofs.Common.{◌≡◌, ℕ, ◌+◌, ◌-◌, ◌*◌, ◌<◌, ◌≤◌, List, ◌++◌, length, take, drop, slice_index, Bool, true, false, if◌then◌else◌, Option, Some, None, refl, ap, sym, ◌∙◌, arith, length-append, length-drop, length-take-le, length-take}
-use Rattle.std.specs.Prelude.{option_map}
+use Rattle.std.proofs.Common.{◌≡◌, ℕ, ◌+◌, ◌-◌, ◌*◌, ◌<◌, ◌≤◌, List, ◌++◌, length, take, drop, slice_index, Option, Some, None, refl, ap, sym, ◌∙◌, arith, length-append, length-drop, length-take-le, length-take}
 use Rattle.std.proofs.lemmas.List.{take_at, get_or-drop}
 use Rattle.brick_spec.specs.AddressTranslation.{with_tcp_source_end, with_tcp_destination_end, with_udp_source_end, with_udp_destination_end, transport_edited, with_source_end, with_source_end_in, with_destination_end, with_destination_end_in, where_ip4, translated_frame}
 use Rattle.brick_spec.specs.Checksum.{adjusted}
@@ -11,15 +10,12 @@ use Rattle.brick_spec.specs.Header.{word_at, with_word, high_word, low_word}
 use Rattle.brick_spec.specs.Layer.{Layer, header_in, payload_in, ip4_layer, tcp_layer_in, udp_layer_in, has_tcp, has_udp, tcp_header_bytes, tcp_extent, udp_extent, source_of, destination_of}
 use Rattle.brick_spec.proofs.Words.{length-with_word}
 use Rattle.eth_ip.proofs.FrameLayers.{ip4_layer_says}
-use Rattle.tcp_udp.proofs.Edits.{ip4_layer-rewritten, outer_edit, byte-before}
+use Rattle.tcp_udp.proofs.Addresses.{length-ip4_edited, byte-edited}
+use Rattle.tcp_udp.proofs.Edits.{ip4_layer-rewritten, outer_edit}
+use Rattle.tcp_udp.proofs.Frames.{given_if}
 use Rattle.tcp_udp.specs.LayerLaws.{has_tcp_says, has_udp_says}
 
 -- LENGTHS
-
-length-ip4_edited : (h : List ℕ) (at w : ℕ) → at + 2 ≤ length h → 12 ≤ length h → length (ip4_edited h at w) ≡ length h
-length-ip4_edited h at w a b =
-    let first = length-with_word h at w a in
-    length-with_word (with_word h at w) 10 (adjusted (word_at h 10) (word_at h at) w) (omega arith) ∙ first
 
 -- an edit that keeps the length of headers of at least so many bytes
 abbrev KeepsLength : ℕ → (List ℕ → List ℕ) → Type 0
@@ -43,11 +39,6 @@ udp_keeps at old a w small h long =
 
 -- THE IPV4 HEADER with another address: its length, its first byte and its total length stay
 
-byte_stays : (h : List ℕ) (at w k : ℕ) → k < at → k < 10 → at + 2 ≤ length h → 12 ≤ length h → slice_index (ip4_edited h at w) k ≡ slice_index h k
-byte_stays h at w k a b c d =
-    let long = length-with_word h at w c in
-    byte-before (with_word h at w) 10 (adjusted (word_at h 10) (word_at h at) w) k b (omega arith) ∙ byte-before h at w k a (omega arith)
-
 record IsFrontSame (h h' : List ℕ) : Type 0 where
   long : length h' ≡ length h
   bytes : (k : ℕ) → k < 10 → slice_index h' k ≡ slice_index h k
@@ -57,7 +48,7 @@ two_edits h at v w behind long =
     let first = length-ip4_edited h at v (omega arith) (omega arith) in
     record {
       long = length-ip4_edited (ip4_edited h at v) (at + 2) w (omega arith) (omega arith) ∙ first;
-      bytes = λ k small. byte_stays (ip4_edited h at v) (at + 2) w k (omega arith) small (omega arith) (omega arith) ∙ byte_stays h at v k (omega arith) small (omega arith) (omega arith);
+      bytes = λ k small. byte-edited (ip4_edited h at v) (at + 2) w k (omega arith) (omega arith) (omega arith) small ∙ byte-edited h at v k (omega arith) (omega arith) (omega arith) small;
     }
 
 word_stays : (h h' : List ℕ) → IsFrontSame h h' → word_at h' 2 ≡ word_at h 2
@@ -87,10 +78,6 @@ record IsBehind (frame : List ℕ) (l t : Layer) (least : ℕ) : Type 0 where
   starts : t.start ≡ l.middle
   long : t.start + least ≤ t.middle
   within : t.middle ≤ length frame
-
-given_if : (b : Bool) (place : ℕ → Layer) (n : ℕ) (t : Layer) → option_map place (if b then Some n else None) ≡ Some t → (b ≡ true) × (place n ≡ t)
-given_if true place n t h = (refl, cc)
-given_if false place n t h = cc
 
 tcp_behind : (frame : List ℕ) (l t : Layer) → ip4_layer frame ≡ Some l → tcp_layer_in frame l ≡ Some t → IsBehind frame l t 20
 tcp_behind frame l t h k =

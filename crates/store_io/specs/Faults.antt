@@ -1,5 +1,5 @@
 -- When a call may answer a fault.
-use Rattle.std.specs.Prelude.{◌≡◌, ◌≢◌, ℕ, ◌+◌, ◌-◌, ◌^◌, ◌≤◌, min, List, Result, IsErr, IsErrOf, OnOk}
+use Rattle.std.specs.Prelude.{◌≡◌, ◌≢◌, ℕ, ◌+◌, ◌≤◌, List, Result, IsErr, IsErrOf, OnOk}
 use Rattle.brick_spec.specs.Cause.{Rose}
 use Rattle.brick_spec.specs.Files.{FaultCounts}
 use Rattle.store_io.specs.declared.traits.IoFault.{IoFault}
@@ -23,10 +23,6 @@ pub record Counted (account : ℕ) (name : List ℕ) (before now : FaultCounts) 
   pub rose : Rose (before account name) (now account name)
   pub later : (a : ℕ) (n : List ℕ) → before a n ≤ now a n
   pub others : (a : ℕ) (n : List ℕ) → a ≢ account → now a n ≡ before a n
-
--- one more, where a count of 64 bits stands still at its last value
-abbrev pub one_more : ℕ → ℕ
-one_more n = min (n + 1) (2 ^ 64 - 1)
 
 -- `Failed` is answered only here, and here no call succeeds.
 pub record FailsWhere {T : Type 0} (here : Type 0) (result : Result T IoFault) : Type 0 where

@@ -1,7 +1,7 @@
 -- Counts of faults by account, each for all names of the account.
 use Rattle.std.specs.Prelude.{◌≡◌, ◌≢◌, ℕ, List, Result, IsErrOf, OnOk, slice_index}
 use Rattle.brick_spec.specs.Files.{FaultCounts}
-use Rattle.store_io.specs.Faults.{one_more}
+use Rattle.brick_spec.specs.Cause.{one_more}
 use Rattle.store_io.specs.declared.traits.IoFault.{IoFault}
 use Rattle.store_io.specs.declared.traits.IoFault.TheVariants.{Failed}
 

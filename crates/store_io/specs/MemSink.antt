@@ -1,6 +1,6 @@
 -- What a sink in memory is seen as.
 use Rattle.std.specs.Prelude.{◌≡◌, ℕ, List, Contains}
-use Rattle.store_io.specs.Faults.{one_more}
+use Rattle.brick_spec.specs.Cause.{one_more}
 use Rattle.store_io.specs.declared.sink.MemSink.{MemSink}
 
 -- the bytes written so far

@@ -1,7 +1,7 @@
 -- What a store in memory is seen as.
 use Rattle.std.specs.Prelude.{◌≡◌, ℕ, List, Contains}
 use Rattle.brick_spec.specs.Files.{Files, FaultCounts}
-use Rattle.store_io.specs.Faults.{one_more}
+use Rattle.brick_spec.specs.Cause.{one_more}
 use Rattle.store_io.specs.Memory.{held, failures}
 use Rattle.store_io.specs.declared.memory.MemStore.{MemStore}
 

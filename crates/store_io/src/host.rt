@@ -1,6 +1,7 @@
 ghost use Rattle.std.specs.Prelude.{◌≡◌, ◌<◌, ◌≤◌, ℕ, List, [], None, length, take, drop, false, IsErrOf, IfOk, OnOk, OnErr, slice_index, slice_set};
 ghost use Rattle.std.specs.Io.KnownBytes.{Appends, Consumes, Keeps};
-ghost use Rattle.store_io.specs.Faults.{Counted, HasCause, HasCauseAt, one_more};
+ghost use Rattle.store_io.specs.Faults.{Counted, HasCause, HasCauseAt};
+ghost use Rattle.brick_spec.specs.Cause.{one_more};
 ghost use Rattle.store_io.specs.Host.{CountsAccount, RaisesAccount, per_account};
 
 use crate::{IoFault, Sink, Store};

@@ -1,6 +1,7 @@
 ghost use Rattle.std.specs.Prelude.{◌≡◌, ◌/◌, ◌++◌, ◌↔◌, [], take, length, true, IsErrOf, IsTrue, OnOk};
 ghost use Rattle.store_io.specs.Calls.{Writes};
-ghost use Rattle.store_io.specs.Faults.{FailsWhere, HasCause, one_more};
+ghost use Rattle.store_io.specs.Faults.{FailsWhere, HasCause};
+ghost use Rattle.brick_spec.specs.Cause.{one_more};
 
 use crate::{IoFault, Sink};
 use std::alloc::Global;

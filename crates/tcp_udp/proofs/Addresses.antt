@@ -19,7 +19,7 @@ length-ip4_edited h at w long within =
     kept' ∙ kept
 
 -- a byte before the word and the checksum
-byte-edited : (h : List ℕ) (at w k : ℕ) → 12 ≤ length h → at + 2 ≤ length h → k < at → k < 10 → slice_index (ip4_edited h at w) k ≡ slice_index h k
+pub byte-edited : (h : List ℕ) (at w k : ℕ) → 12 ≤ length h → at + 2 ≤ length h → k < at → k < 10 → slice_index (ip4_edited h at w) k ≡ slice_index h k
 byte-edited h at w k long within low low' =
     let kept = length-with_word h at w within in
     byte-before (with_word h at w) 10 (adjusted (word_at h 10) (word_at h at) w) k low' (omega arith) ∙ byte-before h at w k low (omega arith)

@@ -1,6 +1,6 @@
 -- Edits of the front of a list, and of a header in a frame.
 use Rattle.std.proofs.Common.{◌≡◌, ℕ, zero, suc, ◌+◌, ◌-◌, ◌<◌, ◌≤◌, List, [], ◌∷◌, ◌++◌, length, take, drop, slice_index, slice_range, Some, refl, ap, sym, ◌∙◌, arith, length-take, length-take-le, length-drop, length-append, append_assoc}
-use Rattle.std.proofs.lemmas.List.{take_at, drop_at, drop-drop, get_or-take, get_or-drop}
+use Rattle.std.proofs.lemmas.List.{take-append-drop, take_at, drop_at, drop-drop, get_or-take, get_or-drop}
 use Rattle.std.proofs.lemmas.Slice.{between_is}
 use Rattle.brick_spec.specs.Header.{word_at, with_word}
 use Rattle.brick_spec.specs.Layer.{Layer, header_in, payload_in, ip4_layer}
@@ -8,11 +8,6 @@ use Rattle.brick_spec.specs.Edit.{with_header, edited_at}
 use Rattle.brick_spec.proofs.Words.{with_word-append, word_at-append, length-with_word}
 use Rattle.tcp_udp.proofs.Segments.{word_at-range}
 use Rattle.eth_ip.proofs.FrameLayers.{ip4_layer_says, ip4_layer-same}
-
-take_drop : (n : ℕ) (xs : List ℕ) → take n xs ++ drop n xs ≡ xs
-take_drop zero xs = refl
-take_drop (suc n) [] = refl
-take_drop (suc n) (x ∷ xs) = ap (λ r. x ∷ r) (take_drop n xs)
 
 -- a byte before a word that is set
 pub byte-before : (xs : List ℕ) (at w k : ℕ) → k < at → at ≤ length xs → slice_index (with_word xs at w) k ≡ slice_index xs k
@@ -41,7 +36,7 @@ pub front-take : (n k : ℕ) (edit : List ℕ → List ℕ) (xs : List ℕ) → 
 front-take n k edit xs is long =
     let first = take k xs in
     let rest = drop k xs in
-    let split : edit xs ≡ edit first ++ rest = ap edit (sym (take_drop k xs)) ∙ is.front first rest long in
+    let split : edit xs ≡ edit first ++ rest = ap edit (sym (take-append-drop k xs)) ∙ is.front first rest long in
     let kept : length (edit first) ≡ length first = is.keeps first long in
     ap (take k) split ∙ take_seam k xs (edit first) kept
   where
@@ -133,7 +128,7 @@ inner_edit least n end edit frame l is h enough within =
     let size : m + n - m ≡ n = omega arith in
     let head_is : head ≡ take n D = ap (λ k. take k D) size in
     let head_long : length head ≡ n = ap length head_is ∙ length-take-le n D (omega arith) in
-    let joined : head ++ behind ≡ D = (λ i. head_is i ++ sym (drop-drop n m frame) i) ∙ take_drop n D in
+    let joined : head ++ behind ≡ D = (λ i. head_is i ++ sym (drop-drop n m frame) i) ∙ take-append-drop n D in
     let edited : drop m frame' ≡ edit D = drop_at (take m frame) (edit head ++ behind) m front ∙ (sym (is.front head behind (omega arith)) ∙ ap edit joined) in
     let kept : length (edit head) ≡ length head = is.keeps head (omega arith) in
     let whole = length-append (take m frame) (edit head ++ behind) in

@@ -1,6 +1,7 @@
 -- A frame whose transport checksum is right, after an edit.
 use Rattle.std.proofs.Common.{◌≡◌, ◌⊎◌, inl, inr, ℕ, ◌+◌, ◌-◌, ◌*◌, ◌/◌, ◌^◌, ◌<◌, ◌≤◌, List, length, take, drop, slice_index, nat_eq, nat_le, nat_lt, Bool, true, false, ◌&&◌, Option, Some, None, if◌then◌else◌, refl, ap, sym, subst, ◌∙◌, arith, length-take, length-take-le, length-drop}
 use Rattle.std.specs.Prelude.{option_map, option_and_then}
+use Rattle.std.proofs.lemmas.Bool.{le-ltb, ltb-false, eqb-true, or_left, or_right, and_parts}
 use Rattle.std.proofs.lemmas.Bool.Decides.{nat_tests}
 use Rattle.brick_spec.specs.Bytes.{IsBytes}
 use Rattle.brick_spec.specs.Checksum.{adjusted}
@@ -10,14 +11,14 @@ use Rattle.brick_spec.specs.Edit.{with_source, with_destination, edited_at, read
 use Rattle.brick_spec.specs.Transport.{is_tcp_right, is_udp_right, is_cut, transport_ok_in, transport_ok}
 use Rattle.brick_spec.proofs.ByteLists.{IsBytes-range, IsBytes-take}
 use Rattle.brick_spec.proofs.Words.{word_small, word_at-with_other, length-with_word}
-use Rattle.eth_ip.specs.LayerLaws.{both, word_at-take}
+use Rattle.eth_ip.specs.LayerLaws.{word_at-take}
 use Rattle.eth_ip.proofs.FrameLayers.{ip4_layer_says}
 use Rattle.tcp_udp.specs.LayerLaws.{has_tcp_says, has_udp_says}
 use Rattle.tcp_udp.specs.TransportLaws.{TransportStaysRight}
 use Rattle.tcp_udp.proofs.Segments.{tcp_at, udp_at}
-use Rattle.tcp_udp.proofs.Reading.{cut_answer, tcp_answer, udp_checked, udp_unchecked, answer_in, first_true, second_true}
+use Rattle.tcp_udp.proofs.Reading.{cut_answer, tcp_answer, udp_checked, udp_unchecked, answer_in}
 use Rattle.tcp_udp.proofs.Edits.{IsFrontEdit, front_words, front_checksum, front-take, inner_edit, outer_edit, byte-before, byte-behind}
-use Rattle.tcp_udp.proofs.Right.{AreParts, IsReaddressed, eq_of_test, tcp-edited-right, udp-edited-right, tcp-address-right, udp-address-right}
+use Rattle.tcp_udp.proofs.Right.{AreParts, IsReaddressed, tcp-edited-right, udp-edited-right, tcp-address-right, udp-address-right}
 use Rattle.tcp_udp.proofs.Addresses.{IsSameButAddresses, with_source_same, with_destination_same, with_source_readdressed, with_destination_readdressed}
 
 true_or_false : (b : Bool) → (b ≡ true) ⊎ (b ≡ false)
@@ -53,7 +54,7 @@ ip4_frame frame l fits h =
 
 -- what the protocol is
 carried_protocol : (protocol : ℕ) (header : List ℕ) → carries protocol header ≡ true → protocol_of header ≡ protocol
-carried_protocol protocol header h = let h₁ = both _ _ h in let h₂ = both _ _ h₁.1 in eq_of_test _ _ h₂.0
+carried_protocol protocol header h = let h₁ = and_parts _ _ h in let h₂ = and_parts _ _ h₁.1 in eqb-true _ _ h₂.0
 
 cut-same : (frame frame' : List ℕ) (l : Layer) → length frame' ≡ length frame → ip4_total (header_in frame' l) ≡ ip4_total (header_in frame l) → is_cut frame l ≡ false → is_cut frame' l ≡ false
 cut-same frame frame' l len total h = (λ i. nat_lt (len i) (l.start + total i)) ∙ h
@@ -65,7 +66,7 @@ none_some b A h = cc
 answer_whole : (frame : List ℕ) (l : Layer) (b : Bool) → transport_ok_in frame l ≡ Some b → is_cut frame l ≡ false
 answer_whole frame l b h = elim (true_or_false (is_cut frame l)) [ inl cut ↦ none_some b (is_cut frame l ≡ false) (sym (cut_answer frame l cut) ∙ h) | inr whole ↦ whole ]
 
-given_if : (b : Bool) (place : ℕ → Layer) (n : ℕ) (t : Layer) → option_map place (if b then Some n else None) ≡ Some t → (b ≡ true) × (place n ≡ t)
+pub given_if : (b : Bool) (place : ℕ → Layer) (n : ℕ) (t : Layer) → option_map place (if b then Some n else None) ≡ Some t → (b ≡ true) × (place n ≡ t)
 given_if true place n t h = (refl, cc)
 given_if false place n t h = cc
 
@@ -201,12 +202,6 @@ udp_has frame l t h k =
 abbrev datagram_in : List ℕ → Layer → List ℕ
 datagram_in frame l = take (udp_total (payload_in frame l)) (payload_in frame l)
 
-not_lt : (a b : ℕ) → b ≤ a → nat_lt a b ≡ false
-not_lt a b h = grind (arith, nat_tests)
-
-le_of_not_lt : (a b : ℕ) → nat_lt a b ≡ false → b ≤ a
-le_of_not_lt a b h = grind (arith, nat_tests)
-
 not_zero : (n : ℕ) → 0 < n → nat_eq n 0 ≡ false
 not_zero n h = grind (arith, nat_tests)
 
@@ -230,7 +225,7 @@ udp_inner frame l edit is front total right =
     (λ i. has_udp (e.header_is i) (e.payload_is i)) ∙ ((λ i. carries 17 H && (nat_le 8 (kept i) && nat_le 8 (total i))) ∙ is.has) in
     let without' : has_tcp (header_in frame' l) (payload_in frame' l) ≡ false = without_tcp (header_in frame' l) (payload_in frame' l) (ap (carries 6) e.header_is ∙ is.no_tcp) in
     let short' : nat_lt (length (payload_in frame' l)) (udp_total (payload_in frame' l)) ≡ false =
-    (λ i. nat_lt (length (e.payload_is i)) (udp_total (e.payload_is i))) ∙ not_lt (length (edit P)) (udp_total (edit P)) (omega arith) in
+    (λ i. nat_lt (length (e.payload_is i)) (udp_total (e.payload_is i))) ∙ le-ltb (length (edit P)) (udp_total (edit P)) (omega arith) in
     let field : word_at (edit P) 6 ≡ word_at (edit U) 6 = sym (word_at-take (edit P) (udp_total (edit P)) 6 (omega arith)) ∙ ap (λ xs. word_at xs 6) moved in
     let pos = right.1 in
     let plain' : nat_eq (word_at (payload_in frame' l) 6) 0 ≡ false = ap (λ xs. nat_eq (word_at xs 6) 0) e.payload_is ∙ not_zero (word_at (edit P) 6) (omega arith) in
@@ -321,14 +316,14 @@ answer_short : (frame : List ℕ) (l : Layer) (b : Bool) → has_tcp (header_in 
 answer_short frame l b without has h =
     let long = nat_lt (length (payload_in frame l)) (udp_total (payload_in frame l)) in
     let zero = nat_eq (word_at (payload_in frame l) 6) 0 in
-    elim (true_or_false long) [ inl past ↦ none_some b (long ≡ false) (sym (udp_unchecked frame l without has (first_true long zero past)) ∙ h) | inr short ↦ short ]
+    elim (true_or_false long) [ inl past ↦ none_some b (long ≡ false) (sym (udp_unchecked frame l without has (or_left long zero past)) ∙ h) | inr short ↦ short ]
 
 answer_plain : (frame : List ℕ) (l : Layer) (b : Bool) → has_tcp (header_in frame l) (payload_in frame l) ≡ false → has_udp (header_in frame l) (payload_in frame l) ≡ true → transport_ok_in frame l ≡ Some b
     → nat_eq (word_at (payload_in frame l) 6) 0 ≡ false
 answer_plain frame l b without has h =
     let long = nat_lt (length (payload_in frame l)) (udp_total (payload_in frame l)) in
     let zero = nat_eq (word_at (payload_in frame l) 6) 0 in
-    elim (true_or_false zero) [ inl unchecked ↦ none_some b (zero ≡ false) (sym (udp_unchecked frame l without has (second_true long zero unchecked)) ∙ h) | inr plain ↦ plain ]
+    elim (true_or_false zero) [ inl unchecked ↦ none_some b (zero ≡ false) (sym (udp_unchecked frame l without has (or_right long zero unchecked)) ∙ h) | inr plain ↦ plain ]
 
 pub udp_law : (frame : List ℕ) (l t : Layer) → IsBytes frame → ip4_layer frame ≡ Some l → transport_ok frame ≡ Some true → udp_layer frame ≡ Some t
     → TransportStaysRight frame l t with_udp_source with_udp_destination with_udp_address
@@ -340,6 +335,6 @@ udp_law frame l t fits h ok k =
     let without = without_tcp (header_in frame l) (payload_in frame l) no_tcp in
     let short = answer_short frame l true without found.0 answer in
     let plain = answer_plain frame l true without found.0 answer in
-    let is : IsUdpFrame frame l = record { layer = h; whole = whole; no_tcp = no_tcp; has = found.0; within = le_of_not_lt (length (payload_in frame l)) (udp_total (payload_in frame l)) short } in
+    let is : IsUdpFrame frame l = record { layer = h; whole = whole; no_tcp = no_tcp; has = found.0; within = ltb-false (length (payload_in frame l)) (udp_total (payload_in frame l)) short } in
     let right = some_bool (is_udp_right (header_in frame l) (datagram_in frame l)) true (sym (udp_checked frame l whole without found.0 short plain) ∙ answer) in
     subst (λ (x : Layer). TransportStaysRight frame l x with_udp_source with_udp_destination with_udp_address) found.1 (udp_stays frame l (ip4_frame frame l fits h) is right)

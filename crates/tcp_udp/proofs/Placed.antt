@@ -1,11 +1,10 @@
 -- The places that are read.
-use Rattle.std.proofs.Common.{◌≡◌, ℕ, ◌+◌, ◌-◌, ◌%◌, ◌≤◌, List, length, take, Bool, true, false, Option, Some, None, if◌then◌else◌, is_some, refl, ap, sym, subst, ◌∙◌, arith, length-take-le}
+use Rattle.std.proofs.Common.{◌≡◌, ℕ, ◌+◌, ◌-◌, ◌%◌, List, length, take, Bool, true, false, Option, Some, None, if◌then◌else◌, refl, ap, sym, subst, ◌∙◌, arith, length-take-le}
 use Rattle.brick_spec.specs.Layer.{Layer, header_in, payload_in, ip4_layer, has_tcp, tcp_length, tcp_header_bytes, tcp_layer_in, has_udp, udp_length, udp_extent, udp_layer_in}
 use Rattle.eth_ip.specs.LayerLaws.{some_if}
 use Rattle.tcp_udp.specs.Datagrams.{IsDatagram}
 use Rattle.tcp_udp.specs.LayerLaws.{has_tcp_says, has_udp_says, udp_extent_fits}
 use Rattle.tcp_udp.specs.PlacesIn.{ArePlaces, HasNoPorts}
-use Rattle.tcp_udp.specs.declared.places.Places.{Places}
 use Rattle.tcp_udp.specs.declared.places.Transport.TheVariants.{Tcp, Udp}
 use Rattle.tcp_udp.proofs.Segments.{tcp_at, tcp_there, tcp_absent, udp_at, udp_there, udp_absent}
 

@@ -1,6 +1,7 @@
 -- What the readers of a frame find.
 use Rattle.std.proofs.Common.{◌≡◌, ℕ, ◌+◌, ◌-◌, ◌<◌, ◌≤◌, ◌^◌, List, length, take, drop, Bool, true, false, Option, Some, None, if◌then◌else◌, is_some, min, nat_lt, nat_le, nat_eq, ◌||◌, refl, ap, sym, ◌∙◌, arith, length-take, length-take-le, length-drop}
 use Rattle.std.specs.Prelude.{option_map, option_and_then}
+use Rattle.std.proofs.lemmas.Bool.{or_left, or_right, lt-ltb, le-ltb, eq-eqb, ne_eqb, leb-true}
 use Rattle.std.specs.Option.{option_or}
 use Rattle.std.proofs.lemmas.Bool.Decides.{nat_tests}
 use Rattle.std.proofs.lemmas.List.{drop-drop}
@@ -8,7 +9,7 @@ use Rattle.brick_spec.specs.Header.{word_at}
 use Rattle.brick_spec.specs.Layer.{Layer, header_in, payload_in, segment_in, ethernet_length, ethernet_layer, ip4_length, ip4_extent, ip4_total, ip4_layer_in, ip4_layer, tcp_header_bytes, has_tcp, tcp_length, tcp_layer_in, udp_total, has_udp, udp_length, udp_layer_in, source_port, destination_port}
 use Rattle.brick_spec.specs.Tuple.{ports_at, transport_layer_in}
 use Rattle.brick_spec.specs.Transport.{is_tcp_right, is_udp_right, is_cut, is_too_long, is_unchecked, tcp_ok_at, udp_ok_at, transport_ok_in, transport_ok}
-use Rattle.eth_ip.specs.LayerLaws.{some_if, le_of_test, ip4_length_says, ip4_length_even, word_at-take}
+use Rattle.eth_ip.specs.LayerLaws.{some_if, ip4_length_says, ip4_length_even, word_at-take}
 use Rattle.eth_ip.proofs.FrameLayers.{ethernet_at, ethernet_payload, extent_is}
 use Rattle.tcp_udp.specs.Datagrams.{IsDatagram}
 use Rattle.tcp_udp.specs.LayerLaws.{has_udp_says}
@@ -24,7 +25,7 @@ pub datagram_read : (frame outer rest : List ℕ) (s n end total : ℕ) → ethe
 datagram_read frame outer rest s n end total he ho hr hn hend ht small =
     let fourteen = some_if (nat_le 14 (length frame)) 14 s he in
     let s_is = fourteen.1 in
-    let enough : 14 ≤ length frame = le_of_test 14 (length frame) fourteen.0 in
+    let enough : 14 ≤ length frame = leb-true 14 (length frame) fourteen.0 in
     let outer_is : outer ≡ take 14 frame = ho ∙ ap (λ k. take k frame) (sym s_is) in
     let rest_is : rest ≡ payload_in frame (ethernet_at frame) = hr ∙ (ap (λ k. drop k frame) (sym s_is) ∙ sym (ethernet_payload frame)) in
     let inner : ip4_length (take 14 frame) (payload_in frame (ethernet_at frame)) ≡ Some n = (λ i. ip4_length (sym outer_is i) (sym rest_is i)) ∙ hn in
@@ -136,10 +137,6 @@ udp_checked frame l whole absent h short field =
     ∙ ((λ i. if whole i || ((too_long_is frame l least ∙ short) i || (unchecked_is frame l least ∙ field) i) then None else Some (is_udp_right (header_in frame l) (segment_in frame (udp_at frame l))))
     ∙ ap (λ xs. Some (is_udp_right (header_in frame l) xs)) (udp_segment frame l h within))
 
-or_true : (a b c : Bool) → (b || c) ≡ true → (a || (b || c)) ≡ true
-or_true true b c h = refl
-or_true false b c h = h
-
 -- there is UDP, and its length is past the payload or its field is 0
 pub udp_unchecked : (frame : List ℕ) (l : Layer) → has_tcp (header_in frame l) (payload_in frame l) ≡ false → has_udp (header_in frame l) (payload_in frame l) ≡ true
     → (nat_lt (length (payload_in frame l)) (udp_total (payload_in frame l)) || nat_eq (word_at (payload_in frame l) 6) 0) ≡ true
@@ -148,7 +145,7 @@ udp_unchecked frame l absent h bad =
     let least = (has_udp_says (header_in frame l) (payload_in frame l) h).least in
     let test : (is_too_long frame l (udp_at frame l) || is_unchecked frame (udp_at frame l)) ≡ true = (λ i. too_long_is frame l least i || unchecked_is frame l least i) ∙ bad in
     udp_answer frame l absent h
-    ∙ ap (λ b. if b then None else Some (is_udp_right (header_in frame l) (segment_in frame (udp_at frame l)))) (or_true (is_cut frame l) (is_too_long frame l (udp_at frame l)) (is_unchecked frame (udp_at frame l)) test)
+    ∙ ap (λ b. if b then None else Some (is_udp_right (header_in frame l) (segment_in frame (udp_at frame l)))) (or_right (is_cut frame l) (is_too_long frame l (udp_at frame l) || is_unchecked frame (udp_at frame l)) test)
 
 -- with the IPv4 layer of the frame
 pub answer_in : (frame : List ℕ) (l : Layer) → ip4_layer frame ≡ Some l → transport_ok frame ≡ transport_ok_in frame l
@@ -193,26 +190,6 @@ udp_found frame header payload cut o q n len field d e absent f there le fe = re
   field_is = fe ∙ ap (λ xs. word_at xs 6) d.payload_is;
 }
 
-pub first_true : (a b : Bool) → a ≡ true → (a || b) ≡ true
-first_true true b h = refl
-first_true false b h = cc
-
-pub second_true : (a b : Bool) → b ≡ true → (a || b) ≡ true
-second_true true b h = refl
-second_true false b h = h
-
-lt_test : (a b : ℕ) → a < b → nat_lt a b ≡ true
-lt_test a b h = grind (arith, nat_tests)
-
-lt_fails : (a b : ℕ) → b ≤ a → nat_lt a b ≡ false
-lt_fails a b h = grind (arith, nat_tests)
-
-eq_test : (a b : ℕ) → a ≡ b → nat_eq a b ≡ true
-eq_test a b h = grind (arith, nat_tests)
-
-eq_fails : (a b : ℕ) → (a ≡ b → ⊥) → nat_eq a b ≡ false
-eq_fails a b h = grind (arith, nat_tests)
-
 -- the UDP length goes past the payload
 pub udp_long_read : (frame header payload : List ℕ) (cut : Bool) (o q : Option ℕ) (n len : ℕ) → IsDatagram frame header payload cut → o ≡ tcp_length header payload → is_some o ≡ false
     → q ≡ udp_length header payload → q ≡ Some n → len ≡ udp_total payload → length payload < len → None ≡ transport_ok frame
@@ -220,8 +197,8 @@ udp_long_read frame header payload cut o q n len d e absent f there le past =
     let u = udp_found frame header payload cut o q n len (word_at payload 6) d e absent f there le refl in
     let size = ap length d.payload_is in
     let l = u.len_is in
-    let test = first_true (nat_lt (length (payload_in frame d.layer)) (udp_total (payload_in frame d.layer))) (nat_eq (word_at (payload_in frame d.layer) 6) 0)
-    (lt_test (length (payload_in frame d.layer)) (udp_total (payload_in frame d.layer)) (omega arith)) in
+    let test = or_left (nat_lt (length (payload_in frame d.layer)) (udp_total (payload_in frame d.layer))) (nat_eq (word_at (payload_in frame d.layer) 6) 0)
+    (lt-ltb (length (payload_in frame d.layer)) (udp_total (payload_in frame d.layer)) (omega arith)) in
     sym (answer_in frame d.layer d.is ∙ udp_unchecked frame d.layer u.without u.has test)
 
 -- the field is 0
@@ -229,8 +206,8 @@ pub udp_plain_read : (frame header payload : List ℕ) (cut : Bool) (o q : Optio
     → q ≡ udp_length header payload → q ≡ Some n → field ≡ word_at payload 6 → field ≡ 0 → None ≡ transport_ok frame
 udp_plain_read frame header payload cut o q n field d e absent f there fe zero =
     let u = udp_found frame header payload cut o q n (udp_total payload) field d e absent f there refl fe in
-    let test = second_true (nat_lt (length (payload_in frame d.layer)) (udp_total (payload_in frame d.layer))) (nat_eq (word_at (payload_in frame d.layer) 6) 0)
-    (eq_test (word_at (payload_in frame d.layer) 6) 0 (sym u.field_is ∙ zero)) in
+    let test = or_right (nat_lt (length (payload_in frame d.layer)) (udp_total (payload_in frame d.layer))) (nat_eq (word_at (payload_in frame d.layer) 6) 0)
+    (eq-eqb (word_at (payload_in frame d.layer) 6) 0 (sym u.field_is ∙ zero)) in
     sym (answer_in frame d.layer d.is ∙ udp_unchecked frame d.layer u.without u.has test)
 
 pub udp_read : (frame header payload : List ℕ) (cut right : Bool) (o q : Option ℕ) (n len field : ℕ) → IsDatagram frame header payload cut → cut ≡ false → o ≡ tcp_length header payload → is_some o ≡ false
@@ -241,7 +218,7 @@ udp_read frame header payload cut right o q n len field d h e absent f there le 
     let size = ap length d.payload_is in
     let l = u.len_is in
     let whole = sym d.cut_is ∙ h in
-    let short = lt_fails (length (payload_in frame d.layer)) (udp_total (payload_in frame d.layer)) (omega arith) in
-    let plain = eq_fails (word_at (payload_in frame d.layer) 6) 0 (λ z. checked (u.field_is ∙ z)) in
+    let short = le-ltb (length (payload_in frame d.layer)) (udp_total (payload_in frame d.layer)) (omega arith) in
+    let plain = ne_eqb (word_at (payload_in frame d.layer) 6) 0 (λ z. checked (u.field_is ∙ z)) in
     let right_is : right ≡ is_udp_right (header_in frame d.layer) (take (udp_total (payload_in frame d.layer)) (payload_in frame d.layer)) = is ∙ (λ i. is_udp_right (d.header_is i) (take (l i) (d.payload_is i))) in
     ap Some right_is ∙ sym (answer_in frame d.layer d.is ∙ udp_checked frame d.layer whole u.without u.has short plain)

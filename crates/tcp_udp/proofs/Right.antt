@@ -1,6 +1,6 @@
 -- A segment whose checksum is right, after an edit.
-use Rattle.std.proofs.Common.{◌≡◌, ◌≢◌, ℕ, zero, suc, ◌+◌, ◌-◌, ◌*◌, ◌^◌, ◌<◌, ◌≤◌, List, [], ◌∷◌, length, drop, slice_index, slice_range, nat_eq, true, refl, ap, sym, ◌∙◌, arith, length-take-le, length-drop}
-use Rattle.std.proofs.lemmas.Bool.Decides.{nat_tests}
+use Rattle.std.proofs.Common.{◌≡◌, ◌≢◌, ℕ, zero, suc, ◌+◌, ◌-◌, ◌*◌, ◌^◌, ◌<◌, ◌≤◌, List, [], ◌∷◌, length, drop, slice_index, slice_range, true, refl, ap, sym, ◌∙◌, arith, length-take-le, length-drop}
+use Rattle.std.proofs.lemmas.Bool.{eqb-true, eq-eqb}
 use Rattle.brick_spec.specs.Bytes.{IsBytes}
 use Rattle.brick_spec.specs.Checksum.{folded, sum_of_words, adjusted}
 use Rattle.brick_spec.specs.Header.{word_at, with_word, number_at, high_word, low_word}
@@ -14,12 +14,6 @@ use Rattle.brick_spec.proofs.Checksums.{adjusted-sum, udp_adjusted-stored}
 use Rattle.eth_ip.proofs.FrameLayers.{word_at-drop}
 use Rattle.tcp_udp.proofs.Sums.{sum-segment}
 use Rattle.tcp_udp.proofs.Segments.{word_at-range}
-
-pub eq_of_test : (m n : ℕ) → nat_eq m n ≡ true → m ≡ n
-eq_of_test m n h = grind (arith, nat_tests)
-
-pub test_of_eq : (m n : ℕ) → m ≡ n → nat_eq m n ≡ true
-test_of_eq m n h = grind (arith, nat_tests)
 
 -- the sum under the checksum of a segment, which stands at twice c
 abbrev pub segment_sum : List ℕ → List ℕ → ℕ → ℕ
@@ -70,10 +64,10 @@ tcp-edited-right header xs k v is low other within right =
     let s = word-edited header xs 8 k v new is low other within in
     let kept = length-with_word xs (double k) v within in
     let same = s.3 in
-    let was : ck ≡ 65535 - folded (segment_sum header xs 8) = eq_of_test ck (segment_checksum header xs 16) right ∙ checksum_is header xs 8 is.outer small in
+    let was : ck ≡ 65535 - folded (segment_sum header xs 8) = eqb-true ck (segment_checksum header xs 16) right ∙ checksum_is header xs 8 is.outer small in
     let now : new ≡ 65535 - folded (segment_sum header x' 8) = adjusted-sum (segment_sum header xs 8) (segment_sum header x' 8) ck old v (word_small xs (double k) is.words) s.1 s.0 s.2 was in
     let stored : word_at x' 16 ≡ new = word_at-with_word 8 new x (adjusted-small ck old v) (omega arith) in
-    test_of_eq (word_at x' 16) (segment_checksum header x' 16) (stored ∙ (now ∙ sym (checksum_is header x' 8 is.outer (omega arith))))
+    eq-eqb (word_at x' 16) (segment_checksum header x' 16) (stored ∙ (now ∙ sym (checksum_is header x' 8 is.outer (omega arith))))
 
 stored-small : (ck : ℕ) → ck < 2 ^ 16 → udp_stored ck < 2 ^ 16
 stored-small zero h = omega arith
@@ -97,13 +91,13 @@ udp-edited-right header xs k v is low other within right =
     let kept = length-with_word xs (double k) v within in
     let same = s.3 in
     let ck = 65535 - folded (segment_sum header xs 3) in
-    let was : field ≡ udp_stored ck = eq_of_test field (udp_stored (segment_checksum header xs 6)) right ∙ ap udp_stored (checksum_is header xs 3 is.outer small) in
+    let was : field ≡ udp_stored ck = eqb-true field (udp_stored (segment_checksum header xs 6)) right ∙ ap udp_stored (checksum_is header xs 3 is.outer small) in
     let now : adjusted ck old v ≡ 65535 - folded (segment_sum header x' 3) = adjusted-sum (segment_sum header xs 3) (segment_sum header x' 3) ck old v (word_small xs (double k) is.words) s.1 s.0 s.2 refl in
     let new_is : new ≡ udp_stored (adjusted ck old v) = ap (λ f. udp_adjusted f old v) was ∙ udp_adjusted-stored ck old v in
     let low' = stored-small (adjusted ck old v) (adjusted-small ck old v) in
     let pos = stored-positive (adjusted ck old v) in
     let stored : word_at x' 6 ≡ new = word_at-with_word 3 new x (omega arith) (omega arith) in
-    (test_of_eq (word_at x' 6) (udp_stored (segment_checksum header x' 6)) (stored ∙ (new_is ∙ (ap udp_stored now ∙ ap udp_stored (sym (checksum_is header x' 3 is.outer (omega arith)))))), omega arith)
+    (eq-eqb (word_at x' 6) (udp_stored (segment_checksum header x' 6)) (stored ∙ (new_is ∙ (ap udp_stored now ∙ ap udp_stored (sym (checksum_is header x' 3 is.outer (omega arith)))))), omega arith)
 
 -- AN ADDRESS CHANGES
 
@@ -144,10 +138,10 @@ tcp-address-right header header' xs old a is turned right =
     let small = is.small in
     let s = address-edited header header' xs 8 old a new is turned in
     let same = s.2 in
-    let was : ck ≡ 65535 - folded (segment_sum header xs 8) = eq_of_test ck (segment_checksum header xs 16) right ∙ checksum_is header xs 8 is.outer small in
+    let was : ck ≡ 65535 - folded (segment_sum header xs 8) = eqb-true ck (segment_checksum header xs 16) right ∙ checksum_is header xs 8 is.outer small in
     let now : new ≡ 65535 - folded (segment_sum header' x' 8) = readdressed-sum (segment_sum header xs 8) (segment_sum header' x' 8) ck old a turned.small s.1 s.0 was in
     let stored : word_at x' 16 ≡ new = word_at-with_word 8 new xs (adjusted-small (adjusted ck (high_word old) (high_word a)) (low_word old) (low_word a)) is.long in
-    test_of_eq (word_at x' 16) (segment_checksum header' x' 16) (stored ∙ (now ∙ sym (checksum_is header' x' 8 turned.outer (omega arith))))
+    eq-eqb (word_at x' 16) (segment_checksum header' x' 16) (stored ∙ (now ∙ sym (checksum_is header' x' 8 turned.outer (omega arith))))
 
 pub udp-address-right : (header header' xs : List ℕ) (old a : ℕ) → AreParts header xs 3 → IsReaddressed header header' old a → is_udp_right header xs ≡ true
     → (is_udp_right header' (with_udp_address xs old a) ≡ true) × (0 < word_at (with_udp_address xs old a) 6)
@@ -159,7 +153,7 @@ udp-address-right header header' xs old a is turned right =
     let s = address-edited header header' xs 3 old a new is turned in
     let same = s.2 in
     let ck = 65535 - folded (segment_sum header xs 3) in
-    let was : field ≡ udp_stored ck = eq_of_test field (udp_stored (segment_checksum header xs 6)) right ∙ ap udp_stored (checksum_is header xs 3 is.outer small) in
+    let was : field ≡ udp_stored ck = eqb-true field (udp_stored (segment_checksum header xs 6)) right ∙ ap udp_stored (checksum_is header xs 3 is.outer small) in
     let now : readdressed ck old a ≡ 65535 - folded (segment_sum header' x' 3) = readdressed-sum (segment_sum header xs 3) (segment_sum header' x' 3) ck old a turned.small s.1 s.0 refl in
     let half : udp_adjusted field (high_word old) (high_word a) ≡ udp_stored (adjusted ck (high_word old) (high_word a)) =
     ap (λ f. udp_adjusted f (high_word old) (high_word a)) was ∙ udp_adjusted-stored ck (high_word old) (high_word a) in
@@ -168,7 +162,7 @@ udp-address-right header header' xs old a is turned right =
     let low' = stored-small (readdressed ck old a) (adjusted-small (adjusted ck (high_word old) (high_word a)) (low_word old) (low_word a)) in
     let pos = stored-positive (readdressed ck old a) in
     let stored : word_at x' 6 ≡ new = word_at-with_word 3 new xs (omega arith) is.long in
-    (test_of_eq (word_at x' 6) (udp_stored (segment_checksum header' x' 6)) (stored ∙ (new_is ∙ (ap udp_stored now ∙ ap udp_stored (sym (checksum_is header' x' 3 turned.outer (omega arith)))))), omega arith)
+    (eq-eqb (word_at x' 6) (udp_stored (segment_checksum header' x' 6)) (stored ∙ (new_is ∙ (ap udp_stored now ∙ ap udp_stored (sym (checksum_is header' x' 3 turned.outer (omega arith)))))), omega arith)
 
 -- the two words of a number of four bytes
 words_of_four : (a b c d : ℕ) → a < 256 → b < 256 → c < 256 → d < 256

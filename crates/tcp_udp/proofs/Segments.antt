@@ -1,12 +1,13 @@
 -- The TCP and the UDP layer in an IPv4 payload.
-use Rattle.std.proofs.Common.{◌≡◌, ℕ, ◌+◌, ◌-◌, ◌≤◌, List, length, take, drop, slice_range, Bool, true, false, Option, Some, None, if◌then◌else◌, min, nat_le, refl, ap, sym, ◌∙◌, arith, length-take, length-take-le}
+use Rattle.std.proofs.Common.{◌≡◌, ℕ, ◌+◌, ◌-◌, ◌≤◌, List, length, take, drop, slice_range, true, false, Option, Some, None, if◌then◌else◌, min, nat_le, ap, sym, ◌∙◌, arith, length-take, length-take-le}
 use Rattle.std.specs.Prelude.{option_map}
+use Rattle.std.proofs.lemmas.Bool.{cond-true, le-leb}
 use Rattle.std.specs.Option.{option_or}
 use Rattle.std.proofs.lemmas.List.{take-take, take_min}
 use Rattle.brick_spec.specs.Header.{word_at}
 use Rattle.brick_spec.specs.Layer.{Layer, header_in, payload_in, segment_in, tcp_header_bytes, has_tcp, tcp_layer_in, udp_total, has_udp, udp_extent, udp_layer_in, source_port, destination_port}
 use Rattle.brick_spec.specs.Tuple.{ports_at, transport_layer_in}
-use Rattle.eth_ip.specs.LayerLaws.{word_at-take, test_of_le}
+use Rattle.eth_ip.specs.LayerLaws.{word_at-take}
 use Rattle.eth_ip.proofs.FrameLayers.{word_at-drop}
 use Rattle.tcp_udp.specs.LayerLaws.{has_tcp_says, has_udp_says}
 
@@ -71,16 +72,12 @@ udp_absent frame l h =
     let place : ℕ → Layer = λ n. record { start = l.middle; middle = l.middle + n; end = l.middle + udp_extent (take n (payload_in frame l)) (length (payload_in frame l)) } in
     ap (λ b. option_map place (if b then Some 8 else None)) h
 
-if_true : (b : Bool) (m n : ℕ) → b ≡ true → (if b then m else n) ≡ m
-if_true true m n h = refl
-if_true false m n h = cc
-
 -- where a UDP payload ends
 pub udp_end : (rest : List ℕ) → 8 ≤ length rest → 8 ≤ udp_total rest → udp_extent (take 8 rest) (length rest) ≡ min (udp_total rest) (length rest)
 udp_end rest long total =
     let cut : length (take 8 rest) ≡ 8 = length-take-le 8 rest long in
     let word : udp_total (take 8 rest) ≡ udp_total rest = word_at-take rest 8 4 (omega arith) in
-    let given : (if nat_le 6 (length (take 8 rest)) then udp_total (take 8 rest) else 0) ≡ udp_total (take 8 rest) = if_true _ _ 0 (test_of_le 6 (length (take 8 rest)) (omega arith)) in
+    let given : (if nat_le 6 (length (take 8 rest)) then udp_total (take 8 rest) else 0) ≡ udp_total (take 8 rest) = cond-true _ _ 0 (le-leb 6 (length (take 8 rest)) (omega arith)) in
     omega arith
 
 -- the header and the payload of UDP, where the UDP length is within the IPv4 payload

@@ -1,10 +1,11 @@
 -- What holds of the lengths and ends of the TCP and the UDP layer.
 use Rattle.std.specs.Prelude.{ℕ, ◌≡◌, ◌*◌, ◌/◌, ◌≤◌, true, List, length, take, slice_index, Some, None, if◌then◌else◌}
 use Rattle.std.proofs.Common.{arith, ap, ◌∙◌}
+use Rattle.std.proofs.lemmas.Bool.{and_parts, and_from, leb-true, le-leb}
 use Rattle.std.proofs.lemmas.List.{get_or-take, length-take-le}
 use Rattle.brick_spec.specs.Layer.{carries, tcp_header_bytes, has_tcp, tcp_length, udp_total, has_udp, udp_length, udp_extent}
 use Rattle.brick_base.specs.Layering.{IsLengthWithin}
-use Rattle.eth_ip.specs.LayerLaws.{word_at-take, some_if, within_if, both, and_true, le_of_test, test_of_le}
+use Rattle.eth_ip.specs.LayerLaws.{word_at-take, some_if, within_if}
 
 -- TCP
 
@@ -17,13 +18,13 @@ pub record HasTcp (outer rest : List ℕ) : Type 0 where
 
 pub has_tcp_says : (outer rest : List ℕ) → has_tcp outer rest ≡ true → HasTcp outer rest
 has_tcp_says outer rest h =
-    let h₁ = both _ _ h in
-    let h₂ = both _ _ h₁.1 in
-    let h₃ = both _ _ h₂.1 in
-    record { carried = h₁.0; least = le_of_test _ _ h₂.0; long = le_of_test _ _ h₃.0; there = le_of_test _ _ h₃.1 }
+    let h₁ = and_parts _ _ h in
+    let h₂ = and_parts _ _ h₁.1 in
+    let h₃ = and_parts _ _ h₂.1 in
+    record { carried = h₁.0; least = leb-true _ _ h₂.0; long = leb-true _ _ h₃.0; there = leb-true _ _ h₃.1 }
 
 pub has_tcp_given : (outer rest : List ℕ) → HasTcp outer rest → has_tcp outer rest ≡ true
-has_tcp_given outer rest h = and_true _ _ h.carried (and_true _ _ (test_of_le _ _ h.least) (and_true _ _ (test_of_le _ _ h.long) (test_of_le _ _ h.there)))
+has_tcp_given outer rest h = and_from _ _ h.carried (and_from _ _ (le-leb _ _ h.least) (and_from _ _ (le-leb _ _ h.long) (le-leb _ _ h.there)))
 
 -- where a length is given, the layer is there, and the length is its header's
 pub tcp_length_says : (outer rest : List ℕ) (n : ℕ) → tcp_length outer rest ≡ Some n → HasTcp outer rest × (tcp_header_bytes rest ≡ n)
@@ -62,12 +63,12 @@ pub record HasUdp (outer rest : List ℕ) : Type 0 where
 
 pub has_udp_says : (outer rest : List ℕ) → has_udp outer rest ≡ true → HasUdp outer rest
 has_udp_says outer rest h =
-    let h₁ = both _ _ h in
-    let h₂ = both _ _ h₁.1 in
-    record { carried = h₁.0; least = le_of_test _ _ h₂.0; total = le_of_test _ _ h₂.1 }
+    let h₁ = and_parts _ _ h in
+    let h₂ = and_parts _ _ h₁.1 in
+    record { carried = h₁.0; least = leb-true _ _ h₂.0; total = leb-true _ _ h₂.1 }
 
 pub has_udp_given : (outer rest : List ℕ) → HasUdp outer rest → has_udp outer rest ≡ true
-has_udp_given outer rest h = and_true _ _ h.carried (and_true _ _ (test_of_le _ _ h.least) (test_of_le _ _ h.total))
+has_udp_given outer rest h = and_from _ _ h.carried (and_from _ _ (le-leb _ _ h.least) (le-leb _ _ h.total))
 
 -- where a length is given, the layer is there, and the length is 8
 pub udp_length_says : (outer rest : List ℕ) (n : ℕ) → udp_length outer rest ≡ Some n → HasUdp outer rest × (8 ≡ n)

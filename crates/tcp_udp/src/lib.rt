@@ -9,6 +9,7 @@ mod datagram;
 mod laws;
 mod matching;
 mod places;
+mod ports;
 mod tcp;
 mod tcp_header;
 #[cfg(test)]
@@ -17,11 +18,11 @@ mod transport;
 mod tuple;
 mod udp;
 mod udp_header;
-mod words;
 
 pub use laws::{parse_finds_layers, transport_edits_keep_right};
 pub use matching::Match;
 pub use places::{Places, Transport, has_tcp, read_places};
+pub use ports::{destination_port, source_port};
 pub use tcp::Tcp;
 pub use tcp_header::{
     TcpMut, TcpView, set_tcp_destination_port, set_tcp_source_port, tcp_acknowledgement,
@@ -34,4 +35,3 @@ pub use udp_header::{
     UdpMut, UdpView, set_udp_destination_port, set_udp_source_port, udp_address_changed,
     udp_checksum, udp_total,
 };
-pub use words::{destination_port, source_port};

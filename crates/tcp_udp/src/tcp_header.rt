@@ -3,11 +3,12 @@
 ghost use Rattle.std.specs.Prelude.{◌≡◌, ℕ, ◌+◌, ◌≤◌, length};
 ghost use Rattle.brick_spec.specs.Header.{word_at};
 ghost use Rattle.brick_spec.specs.Layer.{source_port, destination_port, sequence_of, acknowledgement_of, tcp_flags, tcp_window};
-ghost use Rattle.brick_spec.specs.Edit.{readdressed, tcp_edited, with_tcp_source, with_tcp_destination, with_tcp_address};
+ghost use Rattle.brick_spec.specs.Edit.{readdressed, with_tcp_source, with_tcp_destination, with_tcp_address};
 
-use crate::words::{destination_port, read_word, source_port, write_word};
+use crate::ports::{destination_port, source_port};
 use brick_base::adjust;
 use byteorder::{BigEndian, ByteOrder};
+use eth_ip::{edit_word, read_word, write_word};
 
 /// The sequence number of a header.
 pub fn tcp_sequence(header: &[u8]) -> u32
@@ -54,7 +55,7 @@ pub fn set_tcp_source_port(header: &mut [u8], port: u16)
     requires { 20 ≤ length header.old }
     ensures { header.new ≡ with_tcp_source header.old port }
 {
-    edit_word(header, 0, port);
+    edit_word(header, 16, 0, port);
 }
 
 /// Sets the destination port of a header, and adjusts its checksum for that (RFC 1624, equation 3).
@@ -62,7 +63,7 @@ pub fn set_tcp_destination_port(header: &mut [u8], port: u16)
     requires { 20 ≤ length header.old }
     ensures { header.new ≡ with_tcp_destination header.old port }
 {
-    edit_word(header, 2, port);
+    edit_word(header, 16, 2, port);
 }
 
 /// Adjusts the checksum of a header for an address of its datagram that has changed from `old` to `new`, word by word (RFC 1624,
@@ -73,18 +74,6 @@ pub fn tcp_address_changed(header: &mut [u8], old: u32, new: u32)
 {
     let checksum = tcp_checksum(header);
     write_word(header, 16, readdress(checksum, old, new));
-}
-
-/// Sets the word at a place, and adjusts the checksum for that.
-fn edit_word(header: &mut [u8], at: usize, word: u16)
-    requires long { 18 ≤ length header.old }
-    requires within { at + 2 ≤ length header.old }
-    ensures { header.new ≡ tcp_edited header.old at word }
-{
-    let old = read_word(header, at);
-    let checksum = read_word(header, 16);
-    write_word(header, at, word);
-    write_word(header, 16, adjust(checksum, old, word));
 }
 
 /// The checksum after an address under it has changed.
@@ -180,53 +169,60 @@ impl<'a> TcpMut<'a> {
         TcpMut { header }
     }
 
+    /// The same header, for reading.
+    pub fn as_view(&self) -> TcpView<'_>
+        ensures { result.header.now ≡ self.now.header.now }
+    {
+        TcpView::of(self.header)
+    }
+
     /// The source port.
     pub fn sport(&self) -> u16
         ensures { result ≡ source_port self.now.header.now }
     {
-        source_port(self.header)
+        self.as_view().sport()
     }
 
     /// The destination port.
     pub fn dport(&self) -> u16
         ensures { result ≡ destination_port self.now.header.now }
     {
-        destination_port(self.header)
+        self.as_view().dport()
     }
 
     /// The sequence number.
     pub fn seq(&self) -> u32
         ensures { result ≡ sequence_of self.now.header.now }
     {
-        tcp_sequence(self.header)
+        self.as_view().seq()
     }
 
     /// The acknowledgement number.
     pub fn ack(&self) -> u32
         ensures { result ≡ acknowledgement_of self.now.header.now }
     {
-        tcp_acknowledgement(self.header)
+        self.as_view().ack()
     }
 
     /// The six flags: URG 32, ACK 16, PSH 8, RST 4, SYN 2, FIN 1.
     pub fn flags(&self) -> u8
         ensures { result ≡ tcp_flags self.now.header.now }
     {
-        tcp_flags(self.header)
+        self.as_view().flags()
     }
 
     /// The window, in bytes.
     pub fn window(&self) -> u16
         ensures { result ≡ tcp_window self.now.header.now }
     {
-        tcp_window(self.header)
+        self.as_view().window()
     }
 
     /// The checksum that stands there.
     pub fn stored(&self) -> u16
         ensures { result ≡ word_at self.now.header.now 16 }
     {
-        tcp_checksum(self.header)
+        self.as_view().stored()
     }
 
     /// Sets the source port, and adjusts the checksum for that (RFC 1624, equation 3).

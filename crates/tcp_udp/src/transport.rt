@@ -9,9 +9,8 @@ use crate::datagram::read_datagram;
 use crate::tcp::Tcp;
 use crate::udp::Udp;
 use crate::udp_header::udp_stored;
-use crate::words::read_word;
 use brick_base::{Proto, adjust, checksum};
-use eth_ip::header_protocol;
+use eth_ip::{header_protocol, read_word};
 
 /// Whether the TCP or the UDP checksum of a frame is right. None exactly where there is neither layer, where the frame ends before
 /// the IPv4 total length, where the UDP length goes past the IPv4 payload, or where the UDP checksum field is 0.

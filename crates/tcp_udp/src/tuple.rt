@@ -5,9 +5,9 @@ ghost use Rattle.brick_spec.specs.Layer.{Layer, header_in, payload_in};
 ghost use Rattle.brick_spec.specs.Tuple.{ports_at, transport_layer_in};
 
 use crate::datagram::read_datagram;
+use crate::ports::{destination_port, source_port};
 use crate::tcp::Tcp;
 use crate::udp::Udp;
-use crate::words::{destination_port, source_port};
 use brick_base::Proto;
 use eth_ip::{header_destination, header_protocol, header_source};
 

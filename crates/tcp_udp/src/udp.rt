@@ -5,9 +5,8 @@ ghost use Rattle.brick_spec.specs.Layer.{udp_length, udp_extent};
 ghost use Rattle.tcp_udp.specs.LayerLaws.{udp_length_fits, udp_length-take, udp_extent_fits};
 
 use crate::datagram::carries;
-use crate::words::read_word;
 use brick_base::Proto;
-use eth_ip::Ip4;
+use eth_ip::{Ip4, read_word};
 
 /// The UDP layer, in the payload of an IPv4 datagram of protocol 17 that is no fragment. Its payload goes to the UDP length, or
 /// to where the IPv4 payload ends, whichever comes first.

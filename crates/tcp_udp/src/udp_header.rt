@@ -5,8 +5,9 @@ ghost use Rattle.brick_spec.specs.Header.{word_at};
 ghost use Rattle.brick_spec.specs.Layer.{source_port, destination_port, udp_total};
 ghost use Rattle.brick_spec.specs.Edit.{udp_stored, udp_adjusted, udp_readdressed, udp_edited, with_udp_source, with_udp_destination, with_udp_address};
 
-use crate::words::{destination_port, read_word, source_port, write_word};
+use crate::ports::{destination_port, source_port};
 use brick_base::adjust;
+use eth_ip::{read_word, write_word};
 
 /// The UDP length that a header gives: the bytes of the header and of the payload.
 pub fn udp_total(header: &[u8]) -> u16
@@ -30,7 +31,7 @@ pub fn set_udp_source_port(header: &mut [u8], port: u16)
     requires { 8 ≤ length header.old }
     ensures { header.new ≡ with_udp_source header.old port }
 {
-    edit_word(header, 0, port);
+    edit_udp_word(header, 0, port);
 }
 
 /// Sets the destination port of a header, and adjusts its checksum for that (RFC 1624, equation 3). A field of 0 stays 0, and a
@@ -39,7 +40,7 @@ pub fn set_udp_destination_port(header: &mut [u8], port: u16)
     requires { 8 ≤ length header.old }
     ensures { header.new ≡ with_udp_destination header.old port }
 {
-    edit_word(header, 2, port);
+    edit_udp_word(header, 2, port);
 }
 
 /// Adjusts the checksum of a header for an address of its datagram that has changed from `old` to `new`, word by word (RFC 1624,
@@ -52,8 +53,8 @@ pub fn udp_address_changed(header: &mut [u8], old: u32, new: u32)
     write_word(header, 6, readdress_field(field, old, new));
 }
 
-/// Sets the word at a place, and adjusts the checksum for that.
-fn edit_word(header: &mut [u8], at: usize, word: u16)
+/// Sets the word at a place, and adjusts the checksum field for that, unless it is 0.
+fn edit_udp_word(header: &mut [u8], at: usize, word: u16)
     requires long { 8 ≤ length header.old }
     requires within { at + 2 ≤ length header.old }
     ensures { header.new ≡ udp_edited header.old at word }
@@ -156,32 +157,39 @@ impl<'a> UdpMut<'a> {
         UdpMut { header }
     }
 
+    /// The same header, for reading.
+    pub fn as_view(&self) -> UdpView<'_>
+        ensures { result.header.now ≡ self.now.header.now }
+    {
+        UdpView::of(self.header)
+    }
+
     /// The source port.
     pub fn sport(&self) -> u16
         ensures { result ≡ source_port self.now.header.now }
     {
-        source_port(self.header)
+        self.as_view().sport()
     }
 
     /// The destination port.
     pub fn dport(&self) -> u16
         ensures { result ≡ destination_port self.now.header.now }
     {
-        destination_port(self.header)
+        self.as_view().dport()
     }
 
     /// The UDP length: the bytes of the header and of the payload.
     pub fn length(&self) -> u16
         ensures { result ≡ udp_total self.now.header.now }
     {
-        udp_total(self.header)
+        self.as_view().length()
     }
 
     /// The checksum that stands there. 0 says that there is none.
     pub fn stored(&self) -> u16
         ensures { result ≡ word_at self.now.header.now 6 }
     {
-        udp_checksum(self.header)
+        self.as_view().stored()
     }
 
     /// Sets the source port, and adjusts the checksum for that (RFC 1624, equation 3). A field of 0 stays 0, and a result of 0 is

@@ -1,8 +1,9 @@
 -- Accepted words: which words after the program's name are a line, and which line. The matches of the crate `clap` for the
 -- command `bricks [--workers N] MODE CHAINS OUT` exist, and the rules below hold. A request for help is no line.
-use Rattle.std.specs.Prelude.{ℕ, ◌+◌, ◌*◌, ◌-◌, ◌^◌, ◌&&◌, ◌||◌, ◌==◌, Bool, true, not, List, [], ◌∷◌, length, slice_index, Option, Some, None, IsSome, is_some, codes, if◌then◌else◌, nat_lt, nat_le}
+use Rattle.std.specs.Prelude.{ℕ, ◌-◌, ◌^◌, ◌&&◌, ◌||◌, ◌==◌, Bool, true, List, [], ◌∷◌, length, Option, Some, None, IsSome, is_some, codes, if◌then◌else◌, nat_le}
 use Rattle.std.specs.List.{list_all}
 use Rattle.std.specs.Str.{bytes_eq}
+use Rattle.brick_spec.specs.Decimal.{◌>>=◌, is_digit, number_after, number_of}
 use Rattle.clap.specs.Words.{App, Row, Rule, Text, matches_of, new_app, new_rule, with_rule, fault_of, Kinds, first_of}
 use Rattle.clap.specs.Simple.{on_top}
 
@@ -49,11 +50,6 @@ pub record Line : Type 0 where
   pub chains : List ℕ
   pub out : List ℕ
 
-infixl 10 ◌>>=◌
-abbrev pub ◌>>=◌ : {A B : Type 0} → Option A → (A → Option B) → Option B
-(Some x) >>= f = f x
-None >>= f = None
-
 -- MODE
 
 -- the mode of the first of the words that is this one
@@ -68,30 +64,11 @@ modes = (codes "inline", Inline) ∷ (codes "check", Check) ∷ []
 abbrev pub mode_of : Text → Option Mode
 mode_of text = mode_among modes text
 
--- NUMBERS: decimal digits without sign or leading zero
+-- NUMBERS: decimal digits without sign
 
-abbrev pub is_digit : ℕ → Bool
-is_digit c = nat_le 48 c && nat_le c 57
-
--- the number with one more digit, where that is one and the number stays below 2^64
-abbrev pub with_digit : ℕ → ℕ → Option ℕ
-with_digit n c = if is_digit c && nat_lt (n * 10 + (c - 48)) (2 ^ 64) then Some (n * 10 + (c - 48)) else None
-
--- the number of the digits behind those that spell n
-abbrev pub number_after : ℕ → Text → Option ℕ
-number_after n [] = Some n
-number_after n (c ∷ cs) = with_digit n c >>= λ m. number_after m cs
-
-abbrev pub has_leading_zero : Text → Bool
-has_leading_zero text = nat_lt 1 (length text) && slice_index text 0 == 48
-
--- a number below 2^64
-unfoldable pub number : Text → Option ℕ
-number text = if nat_lt 0 (length text) && not (has_leading_zero text) then number_after 0 text else None
-
--- N: 1 to 16
+-- N: 1 to 16, without leading zero
 abbrev pub workers_of : Text → Option ℕ
-workers_of text = number text >>= λ n. if nat_le 1 n && nat_le n 16 then Some n else None
+workers_of text = number_of 16 text >>= λ n. if nat_le 1 n then Some n else None
 
 -- a letter, a digit, `_`, `.`, `/` or `-`
 abbrev pub is_path_byte : ℕ → Bool
@@ -103,7 +80,7 @@ is_plain_folder out = nat_le 1 (length out) && (nat_le (length out) 200 && list_
 
 -- the number that a generated capture is made of: 1 to 20 digits, zeros in front too, below 2^64
 abbrev pub generated_number : Text → Option ℕ
-generated_number text = if nat_le 1 (length text) && nat_le (length text) 20 then number_after 0 text else None
+generated_number text = if nat_le 1 (length text) && nat_le (length text) 20 then number_after (2 ^ 64 - 1) 0 text else None
 
 -- In mode `gen` CHAINS is that number.
 abbrev pub fits_mode : Mode → Text → Text → Bool

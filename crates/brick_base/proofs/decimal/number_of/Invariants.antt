@@ -1,6 +1,6 @@
 use Rattle.std.proofs.Common.{◌≡◌, ◌≤◌, drop}
-use Rattle.chain_spec.specs.ChainText as spec
-use Rattle.chain_text.proofs.numbers.number_of.Given as goal
+use Rattle.brick_spec.specs.Decimal as spec
+use Rattle.brick_base.proofs.decimal.number_of.Given as goal
 
 abbrev pub invariant-loop-character : goal.invariant-loop-character
 invariant-loop-character l = record {
