@@ -9,10 +9,10 @@ use Rattle.flow_spec.specs.Balancing as spec
 use Rattle.flow_spec.specs.Balancing.{epoch_of, begins_of, backends_of, backends_for, mac_for, balanced, balance_stage}
 use Rattle.lb_maglev.specs.EpochTables.{EpochTables, epoch_tables, table_of_epoch, IsNamed, AreNamed}
 use Rattle.lb_maglev.specs.declared.epochs.Epoch.{Epoch}
-use Rattle.chain_types.specs.StageView.{backend_view, backends_view, change_view}
+use Rattle.chain_types.specs.StageView.{backends_view, change_view}
 use Rattle.chain_types.specs.declared.stage.Backend.{Backend}
 use Rattle.chain_types.specs.declared.stage.Change.{Change}
-use Rattle.flow_stages.specs.EpochMacs.{mac_in, flow_mac, HasMacs, balance_by}
+use Rattle.flow_stages.specs.EpochMacs.{flow_mac, HasMacs, balance_by}
 use Rattle.flow_stages.specs.Rows.{AreFew, change_few, names_in, macs_in, begins_in, rows_in, begins_built, names_built, macs_built}
 
 -- THE STAGE

@@ -1,20 +1,26 @@
 -- Packets that are forwarded.
-use Rattle.std.proofs.Common.{◌≡◌, ℕ, ◌<◌, List, map, length, get_or, Option, Some, None, ap, sym, ◌∙◌}
-use Rattle.std.specs.Prelude.{option_and_then, Result, Ok, Err}
+use Rattle.std.proofs.Common.{◌≡◌, ℕ, ◌<◌, List, map, length, get_or, Option, Some, None, ap, sym, subst, ◌∙◌}
+use Rattle.std.specs.Prelude.{option_and_then, Ok, Err}
 use Rattle.std.specs.List.{slice_get}
 use Rattle.std.proofs.lemmas.Option.{slice_get-get_or}
 use Rattle.brick_spec.specs.Edit.{with_ethernet_destination, with_ethernet_source}
 use Rattle.brick_spec.specs.Item.{Item}
 use Rattle.brick_spec.specs.Route as spec
-use Rattle.brick_spec.specs.Stage.{Reason, NoRoute, Ttl, on_tuple, ttl_stage}
+use Rattle.brick_spec.specs.Stage.{NoRoute, Ttl, on_tuple, ttl_stage}
 use Rattle.brick_spec.specs.Tuple.{Tuple, tuple_of}
 use Rattle.brick_spec.proofs.Positions.{get_mapped}
+use Rattle.brick_base.specs.declared.flow.Class.{Class}
 use Rattle.packet_owner.specs.Packet.{PacketModel, packet_item, with_frame}
 use Rattle.batch_ops.specs.Outlet.{keyed}
+use Rattle.batch_ops.specs.Treat.{Kind, Treated, Treats}
 use Rattle.lpm_fw.specs.RouteView.{route_view}
 use Rattle.lpm_fw.specs.declared.routes.Route.{Route}
 use Rattle.map_filter.specs.Handled.{Keeps, Rejects}
 use Rattle.flow_spec.specs.Routing.{row_for, forwarded, routed_by, route_stage}
+
+-- a packet that is this one
+pub treats_same : {S : Type 0} (k : Kind S) (s s' : S) (class : Class) (p q : PacketModel) (r : Treated) → q ≡ p → Treats k s s' class q r → Treats k s s' class p r
+treats_same k s s' class p q r same was = subst (λ (x : PacketModel). Treats k s s' class x r) same was
 
 -- ADDRESSES
 

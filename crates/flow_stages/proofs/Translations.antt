@@ -1,5 +1,5 @@
 -- Packets that are translated where they lie.
-use Rattle.std.proofs.Common.{◌≡◌, ℕ, List, length, Bool, true, false, nat_le, Option, Some, None, Result, Ok, Err, if◌then◌else◌, refl, ap, sym, subst, ◌∙◌}
+use Rattle.std.proofs.Common.{◌≡◌, ℕ, List, length, Bool, true, false, nat_le, Option, Some, None, Result, Ok, Err, if◌then◌else◌, ap, sym, ◌∙◌}
 use Rattle.std.specs.Prelude.{⊤, IfOk, IfErr}
 use Rattle.brick_spec.specs.AddressTranslation.{by_rank, translated_frame}
 use Rattle.brick_spec.specs.Flow.{Direction, Ends}

@@ -1,5 +1,5 @@
 -- The backends of a stage, epoch by epoch: those of epoch 0, and then those of each change.
-use Rattle.std.specs.Prelude.{ℕ, ◌≤◌, List, [], ◌∷◌, map, length}
+use Rattle.std.specs.Prelude.{ℕ, ◌≤◌, List, ◌∷◌, map, length}
 use Rattle.std.specs.Global.{Vec}
 use Rattle.lb_maglev.specs.declared.epochs.Epoch.{Epoch}
 use Rattle.chain_types.specs.declared.stage.Backend.{Backend}

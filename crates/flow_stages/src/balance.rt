@@ -14,10 +14,9 @@ use crate::backends::{addresses_of, epochs_of};
 use batch_ops::{Dropped, Operator, Outlet, Treat};
 use brick_base::{Class, NoMemory, Raw, Reason};
 use chain_types::{Backend, Change};
-use eth_ip::Ip4;
 use lb_maglev::Epochs;
 use packet_owner::Packet;
-use read_row::{TreatRead, treat_packet};
+use read_row::{ReadPacket, TreatRead, treat_packet};
 use std::alloc::Global;
 
 /// Sends each flow to the backend that the balance table of its epoch has for the hash of its key: the epoch in which it was opened.
@@ -61,12 +60,8 @@ impl BalanceStage {
 impl TreatRead for BalanceStage {
     ghost kind = { keeps_nothing (λ s flow. balance_by s.epochs s.macs.items flow) };
 
-    fn treat_read(
-        &mut self,
-        class: &Class,
-        packet: &mut Packet<Ip4>,
-    ) -> Result<(), Option<Reason>> {
-        send_to(packet, self.mac_for(class.opened, class.hash));
+    fn treat_read(&mut self, class: &Class, packet: &mut ReadPacket) -> Result<(), Option<Reason>> {
+        send_to(&mut packet.packet, self.mac_for(class.opened, class.hash));
         Ok(())
     }
 

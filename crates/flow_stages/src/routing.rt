@@ -10,13 +10,11 @@ ghost use Rattle.lpm_fw.specs.RouteView.{route_view};
 use crate::addresses::{send_from, send_to};
 use batch_ops::{Dropped, Operator, Outlet, Treat};
 use brick_base::{Class, NoMemory, Raw, Reason};
-use eth_ip::Ip4;
 use lpm_fw::Routes;
 use map_filter::lower_ttl;
 use packet_owner::Packet;
-use read_row::{TreatRead, treat_packet};
+use read_row::{ReadPacket, TreatRead, treat_packet};
 use std::sync::Arc;
-use tcp_udp::Tuple;
 
 /// Forwards each packet to the next hop of the longest prefix that contains its destination.
 #[derive(Drop)]
@@ -33,18 +31,18 @@ impl TreatRead for RouteStage {
     fn treat_read(
         &mut self,
         _class: &Class,
-        packet: &mut Packet<Ip4>,
+        packet: &mut ReadPacket,
     ) -> Result<(), Option<Reason>> {
-        let Some(tuple) = Tuple::read(packet.frame()) else {
+        let Some(tuple) = packet.tuple() else {
             return Ok(());
         };
         let Some(row) = self.routes.find(tuple.dst) else {
             return Err(Some(Reason::NoRoute));
         };
         let via = self.routes.via(row);
-        if lower_ttl(packet) {
-            send_from(packet, self.mac);
-            send_to(packet, via);
+        if lower_ttl(&mut packet.packet) {
+            send_from(&mut packet.packet, self.mac);
+            send_to(&mut packet.packet, via);
             return Ok(());
         }
         Err(Some(Reason::Ttl))

@@ -1,5 +1,5 @@
 -- A step of a stage, by what it did with the packet.
-use Rattle.std.proofs.Common.{◌≡◌, ℕ, [], ◌∷◌, false, Ok, Err, Some, subst, refl}
+use Rattle.std.proofs.Common.{◌≡◌, ℕ, [], ◌∷◌, Ok, Err, Some, subst, refl}
 use Rattle.brick_spec.specs.FlowStage.{FlowItem, FlowOutput, left_by, alone}
 use Rattle.brick_base.specs.Flow.{flow_of}
 use Rattle.brick_spec.specs.Stage.{ItemStage}

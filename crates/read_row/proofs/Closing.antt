@@ -1,7 +1,7 @@
 -- Packets that are closed again, after stages have treated them with their layers read.
-use Rattle.std.proofs.Common.{◌≡◌, ◌≤◌, List, [], ◌∷◌, drop, length, Ok, Err, Option, Some, refl, ap, sym, subst, ◌∙◌, arith}
+use Rattle.std.proofs.Common.{◌≡◌, ◌≤◌, List, [], ◌∷◌, drop, length, Ok, Err, Option, refl, ap, sym, subst, ◌∙◌, arith}
 use Rattle.std.specs.Prelude.{Result, ⊤}
-use Rattle.brick_spec.specs.Layer.{ip4_layer, header_in}
+use Rattle.brick_spec.specs.Layer.{ip4_layer}
 use Rattle.brick_base.specs.declared.drops.Reason.{Reason}
 use Rattle.brick_base.specs.declared.flow.Class.{Class}
 use Rattle.eth_ip.proofs.FrameLayers.{ip4_layer_says}

@@ -5,9 +5,11 @@
 #![tactic(auto)]
 
 mod datagram;
+mod packet;
 mod row;
 mod stage;
 
 pub use datagram::{close_ip4, read_ip4};
+pub use packet::ReadPacket;
 pub use row::ReadRow;
 pub use stage::{TreatRead, treat_packet};

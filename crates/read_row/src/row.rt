@@ -3,22 +3,21 @@ ghost use Rattle.brick_spec.specs.Layer.{ip4_layer};
 ghost use Rattle.batch_ops.specs.Treat.{RowTreats, in_row, was_lost};
 ghost use Rattle.read_row.specs.Read.{IsRead, treated};
 
-use crate::datagram::{close_ip4, read_ip4};
+use crate::packet::ReadPacket;
 use crate::stage::{TreatRead, settle};
 use batch_ops::{Dropped, Operator, Outlet};
 use brick_base::{Class, NoMemory, Raw, Reason};
-use eth_ip::Ip4;
 use packet_owner::Packet;
 
 /// Lets each stage treat what the one before let go on.
 fn read_in_turn<S: TreatRead>(
     stages: &mut Vec<S>,
     class: &Class,
-    packet: &mut Packet<Ip4>,
+    packet: &mut ReadPacket,
 ) -> Result<(), Option<Reason>>
-    requires { IsRead packet.old }
-    ensures read { IsRead packet.new }
-    ensures treats { RowTreats S.kind stages.old.items stages.new.items class.now packet.old (treated result packet.new) }
+    requires { IsRead packet.old.packet }
+    ensures read { IsRead packet.new.packet }
+    ensures treats { RowTreats S.kind stages.old.items stages.new.items class.now packet.old.packet (treated result packet.new.packet) }
 {
     for at in 0..stages.len() {
         match stages[at].treat_read(class, packet) {
@@ -55,10 +54,10 @@ fn treat_in_turn<S: TreatRead>(
 ) -> Result<Packet<Raw>, Dropped>
     ensures { RowTreats S.kind stages.old.items stages.new.items class.now packet result }
 {
-    match read_ip4(packet) {
-        Ok(mut ip4) => {
-            let outcome = read_in_turn(stages, class, &mut ip4);
-            settle(outcome, close_ip4(ip4))
+    match ReadPacket::read(packet) {
+        Ok(mut read) => {
+            let outcome = read_in_turn(stages, class, &mut read);
+            settle(outcome, read.close())
         }
         Err(packet) => {
             let outcome = other_in_turn(stages, class, &packet);
@@ -112,6 +111,9 @@ impl<S: TreatRead> ReadRow<S> {
                 reason: None,
                 packet,
             });
+        }
+        if self.stages.is_empty() {
+            return Ok(packet);
         }
         let treated = treat_in_turn(&mut self.stages, class, packet);
         self.failed = is_lost(&treated);

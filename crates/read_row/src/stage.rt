@@ -3,10 +3,9 @@ ghost use Rattle.brick_spec.specs.Layer.{ip4_layer};
 ghost use Rattle.batch_ops.specs.Treat.{Kind, Treats, NoRest};
 ghost use Rattle.read_row.specs.Read.{IsRead, treated};
 
-use crate::datagram::{close_ip4, read_ip4};
+use crate::packet::ReadPacket;
 use batch_ops::Dropped;
 use brick_base::{Class, Raw, Reason};
-use eth_ip::Ip4;
 use packet_owner::Packet;
 
 /// A stage that edits a packet where it lies, makes at most one packet of it, and nothing of the end of a flow.
@@ -15,10 +14,10 @@ pub trait TreatRead {
 
     /// Treats a packet whose Ethernet and IPv4 headers were read. It goes on, or is to be dropped: with no reason where memory ran
     /// out. Then the stage has failed, and each packet is lost from then on.
-    fn treat_read(&mut self, class: &Class, packet: &mut Packet<Ip4>) -> Result<(), Option<Reason>>
-        requires { IsRead packet.old }
-        ensures read { IsRead packet.new }
-        ensures treats { Treats kind self.old self.new class.now packet.old (treated result packet.new) };
+    fn treat_read(&mut self, class: &Class, packet: &mut ReadPacket) -> Result<(), Option<Reason>>
+        requires { IsRead packet.old.packet }
+        ensures read { IsRead packet.new.packet }
+        ensures treats { Treats kind self.old self.new class.now packet.old.packet (treated result packet.new.packet) };
 
     /// The same of a packet that has no IPv4 layer. It stays as it is.
     fn treat_other(&mut self, class: &Class, packet: &Packet<Raw>) -> Result<(), Option<Reason>>
@@ -49,10 +48,10 @@ pub fn treat_packet<S: TreatRead>(
 ) -> Result<Packet<Raw>, Dropped>
     ensures { Treats S.kind stage.old stage.new class.now packet result }
 {
-    match read_ip4(packet) {
-        Ok(mut ip4) => {
-            let outcome = stage.treat_read(class, &mut ip4);
-            settle(outcome, close_ip4(ip4))
+    match ReadPacket::read(packet) {
+        Ok(mut read) => {
+            let outcome = stage.treat_read(class, &mut read);
+            settle(outcome, read.close())
         }
         Err(packet) => {
             let outcome = stage.treat_other(class, &packet);

@@ -11,10 +11,10 @@ use Rattle.brick_base.specs.declared.memory.NoMemory.{NoMemory}
 use Rattle.packet_owner.specs.Packet.{PacketModel}
 use Rattle.batch_ops.specs.declared.outlet.Dropped.{Dropped}
 use Rattle.batch_ops.specs.declared.outlet.Outlet.{Outlet}
-use Rattle.batch_ops.specs.Outlet.{Added, KeyedBuffer, Grows, HasOtherKey, packets, keyed, left_in, nothing_added}
+use Rattle.batch_ops.specs.Outlet.{KeyedBuffer, Grows, HasOtherKey, packets, keyed, left_in}
 use Rattle.batch_ops.specs.Operator.{Meaning, Extends, IsLost, Stepped, Finished, work_item}
 use Rattle.batch_ops.specs.Maybe.{MaybeStands}
-use Rattle.batch_ops.specs.Stage.{StageStands, RowStands}
+use Rattle.batch_ops.specs.Stage.{RowStands}
 use Rattle.batch_ops.specs.Then.{ThenStands}
 use Rattle.batch_ops.specs.Treat.{Kind, NoRest, RowHolds, RowTreats, held_by, stages_at, was_lost, added_by}
 use Rattle.batch_ops.proofs.Calls.{goes_nothing, same_order}

@@ -1,10 +1,8 @@
 -- What a path stands for is what its stages make.
-use Rattle.std.specs.Prelude.{ℕ, ◌++◌, List, [], Option, Some, None, Bool}
-use Rattle.brick_spec.specs.FlowStage.{FlowInput, FlowOutput}
-use Rattle.brick_spec.specs.Flow.{Flow}
+use Rattle.std.specs.Prelude.{List, [], Some, None, Bool}
 use Rattle.batch_ops.specs.Operator.{Meaning}
-use Rattle.batch_ops.specs.Maybe.{MaybeStands, maybe, maybe_row}
-use Rattle.batch_ops.specs.Stage.{RowStands, MeansStages}
+use Rattle.batch_ops.specs.Maybe.{maybe}
+use Rattle.batch_ops.specs.Stage.{MeansStages}
 use Rattle.batch_ops.specs.Then.{in_turn}
 use Rattle.batch_ops.specs.Treat.{Kind, RowHolds, held_by, stages_at, in_row}
 use Rattle.batch_ops.proofs.Calls.{same_order}

@@ -1,5 +1,5 @@
 -- What paths mean.
-use Rattle.std.specs.Prelude.{ℕ, ◌≡◌, ◌++◌, List, [], ◌∷◌, Option, Some, None, Bool}
+use Rattle.std.specs.Prelude.{◌++◌, List, ◌∷◌, Option, None, Bool}
 use Rattle.brick_spec.specs.Flow.{Flow}
 use Rattle.brick_spec.specs.FlowStage.{FlowStage, FlowInput, FlowOutput}
 use Rattle.batch_ops.specs.Operator.{Meaning}

@@ -1,13 +1,12 @@
 -- A stage of one type as one of another.
-use Rattle.std.proofs.Common.{◌≡◌, Bool, List, sym, subst, ◌∙◌, ap}
+use Rattle.std.proofs.Common.{◌≡◌, List, sym, subst, ◌∙◌, ap}
 use Rattle.brick_spec.specs.Flow.{Flow}
-use Rattle.brick_spec.specs.FlowStage.{FlowItem, FlowStage, FlowOutput}
+use Rattle.brick_spec.specs.FlowStage.{FlowItem, FlowStage}
 use Rattle.brick_base.specs.Flow.{flow_of}
 use Rattle.brick_base.specs.declared.flow.Class.{Class}
 use Rattle.packet_owner.specs.Packet.{PacketModel}
-use Rattle.batch_ops.specs.Outlet.{left_in}
 use Rattle.batch_ops.specs.Operator.{work_item}
-use Rattle.batch_ops.specs.Treat.{Kind, Treated, Treats, added_by}
+use Rattle.batch_ops.specs.Treat.{Kind, Treated, Treats}
 
 -- where the type's own words are those of the other
 pub record Same {S T : Type 0} (k : Kind S) (j : Kind T) (put : S → T) : Type 0 where

@@ -1,5 +1,5 @@
 -- What the plain stages of a chain mean.
-use Rattle.std.specs.Prelude.{ℕ, ◌≡◌, Bool, false, List, [], None, map}
+use Rattle.std.specs.Prelude.{Bool, false, List, [], None, map}
 use Rattle.std.specs.Arc.{arc_value}
 use Rattle.std.specs.List.{AllByRecursion}
 use Rattle.brick_spec.specs.AddressTranslation.{nat_stage}

@@ -1,10 +1,9 @@
 use batch_ops::{Dropped, Treat};
 use brick_base::{Class, Raw, Reason};
-use eth_ip::Ip4;
 use flow_stages::{BalanceStage, FirewallStage, NatStage, RouteStage};
 use map_filter::{OnlyStage, ParsedStage, TosStage, TtlStage};
 use packet_owner::Packet;
-use read_row::{ReadRow, TreatRead, treat_packet};
+use read_row::{ReadPacket, ReadRow, TreatRead, treat_packet};
 
 /// A stage that is chosen when the program runs, and makes at most one packet of a packet.
 #[derive(Drop)]
@@ -35,11 +34,7 @@ impl TreatRead for PlainStage {
 
     ghost kind = { plain_kind };
 
-    fn treat_read(
-        &mut self,
-        class: &Class,
-        packet: &mut Packet<Ip4>,
-    ) -> Result<(), Option<Reason>> {
+    fn treat_read(&mut self, class: &Class, packet: &mut ReadPacket) -> Result<(), Option<Reason>> {
         match self {
             PlainStage::Parsed(stage) => stage.treat_read(class, packet),
             PlainStage::Ttl(stage) => stage.treat_read(class, packet),

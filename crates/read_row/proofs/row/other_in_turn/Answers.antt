@@ -1,4 +1,4 @@
-use Rattle.std.proofs.Common.{refl, ◌∙◌, arith}
+use Rattle.std.proofs.Common.{refl, arith}
 use Rattle.batch_ops.proofs.Treats.{so_far, stopped, passed_all}
 use Rattle.read_row.proofs.row.other_in_turn.Goals as goal
 

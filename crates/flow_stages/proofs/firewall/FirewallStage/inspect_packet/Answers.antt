@@ -15,8 +15,8 @@ pub invariant_of-self : goal.invariant_of-self
 invariant_of-self g c =
     let s = c.args.self.now in
     let class = c.args.class.now in
-    let is = is_item class c.args.packet.now c.read-tuple.result c.frame.result.now c.frame.ensures c.read-tuple.ensures in
-    record { kept = kept_after s.established s.rules s.flows c.inspect.new.flows class c.read-tuple.result (work_item class c.args.packet.now) c.inspect.result is c.inspect.ensures.kept c.inspect.ensures.err s.kept }
+    let is = is_item class c.args.packet.now c.args.tuple.now c.args.packet.now.frame refl c.requires in
+    record { kept = kept_after s.established s.rules s.flows c.inspect.new.flows class c.args.tuple.now (work_item class c.args.packet.now) c.inspect.result is c.inspect.ensures.kept c.inspect.ensures.err s.kept }
 
 pub invariant_of-self-in-Err : goal.invariant_of-self-in-Err
 invariant_of-self-in-Err g c =
@@ -39,7 +39,7 @@ returns-in-Ok-Allow g c =
     let s = c.args.self.now in
     let class = c.args.class.now in
     let x = work_item class c.args.packet.now in
-    let is = is_item class c.args.packet.now c.read-tuple.result c.frame.result.now c.frame.ensures c.read-tuple.ensures in
+    let is = is_item class c.args.packet.now c.args.tuple.now c.args.packet.now.frame refl c.requires in
     let keeps : KeepsSet s.established s.rules s.flows c.inspect.new.flows class.flow x = λ before stands. c.in-Ok-Allow.ensures.kept before x stands is in
     let says = subst (λ (v : Verdict). SaysOf s.established s.rules s.flows class.flow x (verdict_view v)) c.in-Ok-Allow.field-0-is (λ before stands. c.in-Ok-Allow.ensures.verdict before x stands is) in
     record {
@@ -57,7 +57,7 @@ returns-in-Ok-Deny g c =
     let s = c.args.self.now in
     let class = c.args.class.now in
     let x = work_item class c.args.packet.now in
-    let is = is_item class c.args.packet.now c.read-tuple.result c.frame.result.now c.frame.ensures c.read-tuple.ensures in
+    let is = is_item class c.args.packet.now c.args.tuple.now c.args.packet.now.frame refl c.requires in
     let keeps : KeepsSet s.established s.rules s.flows c.inspect.new.flows class.flow x = λ before stands. c.in-Ok-Deny.ensures.kept before x stands is in
     let says = subst (λ (v : Verdict). SaysOf s.established s.rules s.flows class.flow x (verdict_view v)) c.in-Ok-Deny.field-0-is (λ before stands. c.in-Ok-Deny.ensures.verdict before x stands is) in
     record {

@@ -1,4 +1,4 @@
-use Rattle.std.proofs.Common.{◌≡◌, refl, sym, subst, ap, ◌∙◌, Result}
+use Rattle.std.proofs.Common.{refl, sym, subst, ap, ◌∙◌, Result}
 use Rattle.std.specs.Prelude.{⊤, is_err}
 use Rattle.brick_base.specs.declared.memory.NoMemory.{NoMemory}
 use Rattle.batch_ops.specs.declared.outlet.Outlet.{Outlet}

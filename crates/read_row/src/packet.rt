@@ -1,0 +1,62 @@
+//! Packets of which the Ethernet layer and the IPv4 layer are read.
+
+ghost use Rattle.std.specs.Prelude.{◌≡◌, drop, None, IfOk, IfErr, option_map};
+ghost use Rattle.brick_spec.specs.Layer.{ip4_layer};
+ghost use Rattle.brick_spec.specs.Tuple.{tuple_of};
+ghost use Rattle.read_row.specs.Datagram.{ReadsIp4};
+ghost use Rattle.read_row.specs.Read.{IsKept};
+ghost use Rattle.tcp_udp.specs.View.{tuple_view};
+
+use crate::datagram::{close_ip4, read_ip4};
+use brick_base::Raw;
+use eth_ip::Ip4;
+use packet_owner::Packet;
+use tcp_udp::Tuple;
+
+/// A packet whose Ethernet and IPv4 headers were read, and its five-tuple, where one was asked for. Who changes the addresses, the
+/// protocol or the ports of the packet forgets the five-tuple.
+#[derive(Drop)]
+pub struct ReadPacket {
+    /// The packet.
+    pub packet: Packet<Ip4>,
+    /// The five-tuple of its frame, if it is known.
+    pub tuple: Option<Tuple>,
+    // it is that of the frame
+    pub ghost kept: { IsKept tuple packet },
+}
+
+impl ReadPacket {
+    /// Reads a packet up to its IPv4 layer. A packet that has none comes back as it came.
+    pub fn read(packet: Packet<Raw>) -> Result<ReadPacket, Packet<Raw>>
+        ensures ok { IfOk result (λ q. ReadsIp4 packet q.packet) }
+        ensures unknown { IfOk result (λ q. q.tuple ≡ None) }
+        ensures err { IfErr result (λ p. (p ≡ packet) × (ip4_layer packet.frame ≡ None)) }
+    {
+        match read_ip4(packet) {
+            Ok(packet) => Ok(ReadPacket {
+                packet,
+                tuple: None,
+            }),
+            Err(packet) => Err(packet),
+        }
+    }
+
+    /// The packet with no layer read.
+    pub fn close(self) -> Packet<Raw>
+        ensures { result ≡ record self.packet { layers = drop 2 self.packet.layers } }
+    {
+        close_ip4(self.packet)
+    }
+
+    /// The five-tuple of its frame, which is read where it is not known yet, and is known then.
+    pub fn tuple(&mut self) -> Option<Tuple>
+        ensures value { option_map tuple_view result ≡ tuple_of self.old.packet.frame }
+        ensures known { self.new.tuple ≡ result }
+        ensures packet { self.new.packet ≡ self.old.packet }
+    {
+        if self.tuple.is_none() {
+            self.tuple = Tuple::read(self.packet.frame());
+        }
+        self.tuple
+    }
+}
