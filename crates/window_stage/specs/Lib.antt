@@ -2,7 +2,8 @@ pub mod Fields
 pub mod Emission
 pub mod Own
 pub mod HalfFlow
-pub mod HalfFlows
+pub mod FlowHalves
+pub mod Flows
 pub mod StageState
 pub mod StageMeaning
 pub mod MeaningLaw

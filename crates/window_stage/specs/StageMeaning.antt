@@ -7,7 +7,7 @@ use Rattle.window_stage.specs.declared.stage.WindowStage.{WindowStage}
 
 abbrev pub window_meaning : Meaning WindowStage
 window_meaning = record {
-  stands = λ s flow came left. WindowStands s.size s.reach s.forward s.reversed flow came left;
+  stands = λ s flow came left. WindowStands s.size s.reach s.flows flow came left;
   ready = λ _. Unit {0};
   failed = λ s. s.failed;
   spares = λ s. s.reach / s.size + 1;

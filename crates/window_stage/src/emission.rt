@@ -71,7 +71,8 @@ fn emit_window(
     );
 }
 
-/// Passes the windows of a stream from the one at `from` up to that before `to`, in spare buffers, under the keys from `(a, 1)` on.
+/// Passes the windows of a stream from the one at `from` up to that before `to`, in spare buffers, under the keys from
+/// `(a, 1)` on.
 pub(crate) fn emit_windows(
     stream: &Stream,
     size: u32,

@@ -12,8 +12,8 @@ use packetize::Template;
 use std::alloc::Global;
 use window_stream::{Segment, Stream, Taken};
 
-/// What is kept of one direction of a flow: its stream, of which each window was emitted as soon as it was whole, and the template of
-/// the last packet that counted.
+/// What is kept of one direction of a flow: its stream, of which each window was emitted as soon as it was whole, and the
+/// template of the last packet that counted.
 #[derive(Drop)]
 pub(crate) struct HalfFlow {
     pub(crate) stream: Stream,
@@ -39,7 +39,8 @@ impl HalfFlow {
     pub(crate) fn new(alloc: Global, size: u32, reach: u32) -> Result<HalfFlow, NoMemory>
         requires size { (64 ≤ size) × (size ≤ 1460) }
         requires reach { (1460 ≤ reach) × (reach ≤ 1048576) }
-        ensures { IfOk result (λ w. (w.size ≡ size) × (w.stream.reach ≡ reach) × StandsFor w.stream [] × (w.last ≡ None)) }
+        ensures { IfOk result (λ w.
+            (w.size ≡ size) × (w.stream.reach ≡ reach) × StandsFor w.stream [] × (w.last ≡ None)) }
     {
         let stream = Stream::new(alloc, size, reach)?;
         Ok(HalfFlow {
@@ -101,7 +102,8 @@ impl HalfFlow {
         requires room { vec_len out.old.passed < vec_capacity out.old.passed }
         requires spare { 0 < length out.old.spare.free }
         requires long { 54 + self.now.size ≤ out.old.spare.bytes }
-        ensures { Emitted 1 key.1 (λ xs. (items : List FlowItem) → HalfFlowFits (dir_view dir) self.now items → xs ≡ rest_in self.now.size self.now.stream.reach (dir_view dir) key.0 key.1 items) out.old out.new }
+        ensures { Emitted 1 key.1 (λ xs. (items : List FlowItem) → HalfFlowFits (dir_view dir) self.now items →
+            xs ≡ rest_in self.now.size self.now.stream.reach (dir_view dir) key.0 key.1 items) out.old out.new }
     {
         if let Some(template) = &self.last {
             emit_rest(&self.stream, self.size, template, dir, key, out);

@@ -1,10 +1,12 @@
-//! Stage `window`, as an operator: of each direction of a flow the bytes of its TCP stream in order, in windows of one size.
+//! Stage `window`, as an operator: of each direction of a flow the bytes of its TCP stream in order, in windows of one
+//! size.
 #![tactic(auto)]
 
 mod emission;
 mod fields;
+mod flow_halves;
+mod flows;
 mod half_flow;
-mod half_flows;
 mod laws;
 mod own;
 mod sent;

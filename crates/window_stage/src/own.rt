@@ -11,8 +11,8 @@ use brick_base::{Dir, Raw};
 use packet_owner::Packet;
 use packetize::bare;
 
-/// What a counting packet leaves of itself, in its own buffer: its bare segment, where it has SYN, FIN or RST, goes on, and else it is kept
-/// aside.
+/// What a counting packet leaves of itself, in its own buffer: its bare segment, where it has SYN, FIN or RST, goes on,
+/// and else it is kept aside.
 pub(crate) fn leave_own(dir: Dir, fields: SegmentFields, p: Packet<Raw>, out: &mut Outlet)
     requires fields { HasFields p.frame fields }
     requires passed { vec_len out.old.passed < vec_capacity out.old.passed }

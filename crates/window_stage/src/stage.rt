@@ -3,27 +3,25 @@
 ghost use Rattle.std.specs.Prelude.{ℕ, ◌≡◌, ◌≤◌};
 
 use crate::fields::read_fields;
-use crate::half_flows::HalfFlows;
+use crate::flows::Flows;
 use batch_ops::{Operator, Outlet, Staged};
-use brick_base::{Class, Dir, NoMemory, Raw};
+use brick_base::{Class, NoMemory, Raw};
 use packet_owner::Packet;
 use std::alloc::Global;
 
-/// Of each direction of each flow, passes the bytes of its TCP stream in order, in windows of `size` bytes, in place of the segments
-/// that they came in. A payload that ends more than `reach` bytes past the bytes in order is dropped.
+/// Of each direction of each flow, passes the bytes of its TCP stream in order, in windows of `size` bytes, in place of
+/// the segments that they came in. A payload that ends more than `reach` bytes past the bytes in order is dropped.
 #[derive(Drop)]
 pub struct WindowStage {
     /// How many bytes a window has.
     pub size: u32,
     /// How far past the bytes in order a payload may end.
     pub reach: u32,
-    pub(crate) forward: HalfFlows,
-    pub(crate) reversed: HalfFlows,
+    pub(crate) flows: Flows,
     pub(crate) failed: bool,
     pub ghost windows: { (64 ≤ size) × (size ≤ 1460) },
     pub ghost within: { (1460 ≤ reach) × (reach ≤ 1048576) },
-    pub ghost forward_same: { (forward.size ≡ size) × (forward.reach ≡ reach) },
-    pub ghost reversed_same: { (reversed.size ≡ size) × (reversed.reach ≡ reach) },
+    pub ghost same: { (flows.size ≡ size) × (flows.reach ≡ reach) },
 }
 
 impl WindowStage {
@@ -44,8 +42,7 @@ impl WindowStage {
         WindowStage {
             size,
             reach,
-            forward: HalfFlows::new(alloc, size, reach),
-            reversed: HalfFlows::new(alloc, size, reach),
+            flows: Flows::new(alloc, size, reach),
             failed: false,
         }
     }
@@ -65,21 +62,12 @@ impl Operator for WindowStage {
             out.pass(class.dir, p);
             return Ok(());
         };
-        match class.dir {
-            Dir::Forward => match self.forward.step(class.flow, class.dir, fields, p, out) {
-                Ok(()) => Ok(()),
-                Err(NoMemory) => {
-                    self.failed = true;
-                    Err(NoMemory)
-                }
-            },
-            Dir::Reversed => match self.reversed.step(class.flow, class.dir, fields, p, out) {
-                Ok(()) => Ok(()),
-                Err(NoMemory) => {
-                    self.failed = true;
-                    Err(NoMemory)
-                }
-            },
+        match self.flows.step(class.flow, class.dir, fields, p, out) {
+            Ok(()) => Ok(()),
+            Err(NoMemory) => {
+                self.failed = true;
+                Err(NoMemory)
+            }
         }
     }
 
@@ -88,8 +76,7 @@ impl Operator for WindowStage {
             return Err(NoMemory);
         }
         let a = u64::from(records) + u64::from(class.flow);
-        self.forward.end(class.flow, Dir::Forward, (a, 0), out);
-        self.reversed.end(class.flow, Dir::Reversed, (a, 1), out);
+        self.flows.end(class.flow, a, out);
         Ok(())
     }
 }

@@ -82,7 +82,7 @@ fn write_headers(frame: &mut [u8], seq: u32, flags: u8, total: u16)
     frame[47] = flags;
 }
 
-/// Runs the stage on the packet of record `number`, which has this class and frame, and tells what is in the outlet then.
+/// Runs the stage on the packet of record `number`, which has this class and frame, and tells what is in the outlet.
 fn step_frame<R: Abort + AllocGlobal>(
     rt: &R,
     stage: &mut WindowStage,
@@ -142,7 +142,8 @@ fn counts(out: &Outlet) -> (usize, usize, usize)
     (out.passed.len(), out.dropped.len(), out.consumed.len())
 }
 
-/// The packet has this key and this sequence number, lies in a spare buffer or not, and its checksums are right. Its data is told.
+/// The packet has this key and this sequence number, lies in a spare buffer or not, and its checksums are right. Its data
+/// is told.
 fn expect_frame<'a, R: Abort>(
     rt: &R,
     passed: &'a Passed,
@@ -264,7 +265,11 @@ fn flows_and_directions_have_streams_of_their_own(rt: HostRuntime) -> Result<(),
     let data = expect_frame(&rt, &out.passed[0], (1, 1), 5000, true);
     expect_bytes(&rt, data, (2, 64), (0, 0));
     let arp = [0x08; 20];
-    let out = step_frame(&rt, &mut stage, 2, &class_of(2, forward), &arp)?;
+    let class_other = Class {
+        other: true,
+        ..class_of(2, forward)
+    };
+    let out = step_frame(&rt, &mut stage, 2, &class_other, &arp)?;
     expect_as_it_came(&rt, &out, 2, &arp);
     let out = step_over(&rt, &mut stage, 3, segment(reversed, 900, ACK, 3, 70))?;
     assert_eq!(rt; counts(&out), (1, 0, 1));
@@ -290,6 +295,26 @@ fn flows_and_directions_have_streams_of_their_own(rt: HostRuntime) -> Result<(),
         let out = rests(&rt, &mut stage, flow, 6)?;
         assert_eq!(rt; counts(&out), (0, 0, 0));
     }
+    Ok(())
+}
+
+#[test]
+fn a_bare_segment_sets_the_base(rt: HostRuntime) -> Result<(), Fail> {
+    let mut stage = WindowStage::new(rt.alloc(), 64, 65536);
+    let reversed = Dir::Reversed;
+    let out = step_over(&rt, &mut stage, 0, segment(reversed, 700, ACK, 0, 0))?;
+    assert_eq!(rt; counts(&out), (1, 0, 0));
+    // The bytes at position 5 wait for the five before them.
+    let out = step_over(&rt, &mut stage, 1, segment(reversed, 705, ACK, 1, 10))?;
+    assert_eq!(rt; counts(&out), (0, 0, 1));
+    let out = rests(&rt, &mut stage, 0, 2)?;
+    assert_eq!(rt; counts(&out), (0, 0, 0));
+    let out = step_over(&rt, &mut stage, 2, segment(reversed, 700, ACK, 2, 5))?;
+    assert_eq!(rt; counts(&out), (0, 0, 1));
+    let out = rests(&rt, &mut stage, 0, 3)?;
+    assert_eq!(rt; counts(&out), (1, 0, 0));
+    let data = expect_frame(&rt, &out.passed[0], (3, 1), 700, true);
+    expect_bytes(&rt, data, (2, 5), (1, 10));
     Ok(())
 }
 

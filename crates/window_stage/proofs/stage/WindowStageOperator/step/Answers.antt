@@ -8,7 +8,7 @@ use Rattle.batch_ops.proofs.ThenCalls.{failed_steps}
 use Rattle.window_stage.specs.StageMeaning.{window_meaning}
 use Rattle.window_stage.specs.Emission.{only_passed}
 use Rattle.window_stage.proofs.Stepping.{moves_own, moves_as}
-use Rattle.window_stage.proofs.Staging.{stage_steps, stage_loses, without_goes, forward_goes, reversed_goes, forward_others, reversed_others}
+use Rattle.window_stage.proofs.Staging.{stage_steps, stage_loses, without_goes, flows_go, flows_others}
 use Rattle.window_stage.proofs.stage.WindowStageOperator.step.Goals as goal
 
 abbrev same_most : (r s r' s' : ℕ) → r ≡ r' → s ≡ s' → r / s + 1 ≡ r' / s' + 1
@@ -25,7 +25,7 @@ returns-in_default c =
     let without : tcp_layer p.frame ≡ None = ap tcp_layer (sym (c.payload.ensures.value ∙ raw_payload p c.payload.ensures.layers)) ∙ c.in_default.ensures in
     stage_steps s s class p c.args.out.now c.pass.new.self (only_passed (record { dir = class.dir; packet = p } ∷ [])) refl refl c.if-self.false
     (moves_own (window_meaning.spares s) p c.args.out.now c.pass.new.self _ refl c.pass.ensures.grows c.pass.ensures.spare) (λ _. tt) (λ other came left differs was. was)
-    (without_goes s.size s.reach s.forward s.reversed (flow_of class) (work_item class p) without) refl c.if-self.false
+    (without_goes s.size s.reach s.flows (flow_of class) (work_item class p) without) refl c.if-self.false
 
 pub returns-in-Ok : goal.returns-in-Ok
 returns-in-Ok c =
@@ -34,9 +34,9 @@ returns-in-Ok c =
     let p = c.args.p in
     let steps = c.in-Ok.ensures in
     stage_steps s _ class p c.args.out.now c.step.new.out steps.added refl refl c.if-self.false
-    (moves_as (keyed p ∷ []) _ (s.reach / s.size + 1) c.args.out.now c.step.new.out steps.added (let e = same_most s.forward.reach s.forward.size s.reach s.size s.forward_same.1 s.forward_same.0 in omega arith) steps.moves) steps.apart
-    (forward_others s.size s.reach s.forward c.step.new.self s.reversed (flow_of class) steps.others steps.same.1)
-    (forward_goes class p s.forward c.step.new.self s.reversed c.args.out.now c.step.new.out s.size s.reach s.forward_same steps c.in-Forward.is) steps.none_lost c.if-self.false
+    (moves_as (keyed p ∷ []) _ (s.reach / s.size + 1) c.args.out.now c.step.new.out steps.added (let e = same_most s.flows.reach s.flows.size s.reach s.size s.same.1 s.same.0 in omega arith) steps.moves) steps.apart
+    (flows_others s.size s.reach s.flows c.step.new.self (flow_of class) steps.others steps.same.1)
+    (flows_go class p s.flows c.step.new.self c.args.out.now c.step.new.out s.size s.reach s.same steps) steps.none_lost c.if-self.false
 
 pub returns-in-Err : goal.returns-in-Err
 returns-in-Err c =
@@ -45,26 +45,5 @@ returns-in-Err c =
     let p = c.args.p in
     let steps = c.in-Err.ensures in
     stage_loses s _ class p c.args.out.now c.step.new.out steps.added refl refl c.if-self.false
-    (moves_as (keyed p ∷ []) _ (s.reach / s.size + 1) c.args.out.now c.step.new.out steps.added (let e = same_most s.forward.reach s.forward.size s.reach s.size s.forward_same.1 s.forward_same.0 in omega arith) steps.moves) steps.apart
-    (forward_others s.size s.reach s.forward c.step.new.self s.reversed (flow_of class) steps.others steps.same.1) _ steps.lost refl
-
-pub returns-in-Ok-step : goal.returns-in-Ok-step
-returns-in-Ok-step c =
-    let s = c.args.self.now in
-    let class = c.args.class.now in
-    let p = c.args.p in
-    let steps = c.in-Ok-step.ensures in
-    stage_steps s _ class p c.args.out.now c.step-in-Reversed.new.out steps.added refl refl c.if-self.false
-    (moves_as (keyed p ∷ []) _ (s.reach / s.size + 1) c.args.out.now c.step-in-Reversed.new.out steps.added (let e = same_most s.reversed.reach s.reversed.size s.reach s.size s.reversed_same.1 s.reversed_same.0 in omega arith) steps.moves) steps.apart
-    (reversed_others s.size s.reach s.reversed c.step-in-Reversed.new.self s.forward (flow_of class) steps.others steps.same.1)
-    (reversed_goes class p s.reversed c.step-in-Reversed.new.self s.forward c.args.out.now c.step-in-Reversed.new.out s.size s.reach s.reversed_same steps c.in-Reversed.is) steps.none_lost c.if-self.false
-
-pub returns-in-Err-step : goal.returns-in-Err-step
-returns-in-Err-step c =
-    let s = c.args.self.now in
-    let class = c.args.class.now in
-    let p = c.args.p in
-    let steps = c.in-Err-step.ensures in
-    stage_loses s _ class p c.args.out.now c.step-in-Reversed.new.out steps.added refl refl c.if-self.false
-    (moves_as (keyed p ∷ []) _ (s.reach / s.size + 1) c.args.out.now c.step-in-Reversed.new.out steps.added (let e = same_most s.reversed.reach s.reversed.size s.reach s.size s.reversed_same.1 s.reversed_same.0 in omega arith) steps.moves) steps.apart
-    (reversed_others s.size s.reach s.reversed c.step-in-Reversed.new.self s.forward (flow_of class) steps.others steps.same.1) _ steps.lost refl
+    (moves_as (keyed p ∷ []) _ (s.reach / s.size + 1) c.args.out.now c.step.new.out steps.added (let e = same_most s.flows.reach s.flows.size s.reach s.size s.same.1 s.same.0 in omega arith) steps.moves) steps.apart
+    (flows_others s.size s.reach s.flows c.step.new.self (flow_of class) steps.others steps.same.1) _ steps.lost refl
