@@ -13,7 +13,6 @@ use batch_ops::{Batch, Outlet, Work};
 use brick_base::{Class, NoMemory};
 use packet_owner::Spare;
 use std::alloc::Global;
-use std::collections::BTreeMap;
 use std::mem::replace;
 use work_core::{Returned, WorkResult};
 
@@ -51,7 +50,7 @@ impl<N: Node> NodeWork<N> {
                 back: Returned::new(),
             },
             flows: Flows {
-                seen: BTreeMap::new(alloc),
+                seen: Vec::new(alloc),
                 list: Vec::new(alloc),
             },
             ended: None,

@@ -1,18 +1,17 @@
 -- Groups, and the whole chain.
-use Rattle.std.proofs.Common.{◌≡◌, ℕ, zero, suc, ◌+◌, ◌<◌, ◌≤◌, List, [], ◌∷◌, ◌++◌, map, length, Option, Result, Ok, Err, IfOk, ◌⊎◌, inl, inr, refl, ap, sym, subst, ◌∙◌, arith, vec_capacity, length-append}
+use Rattle.std.proofs.Common.{◌≡◌, ℕ, ◌+◌, ◌<◌, List, [], ◌∷◌, map, length, Option, Result, Ok, Err, IfOk, ◌⊎◌, inl, inr, refl, ap, sym, subst, ◌∙◌, arith, vec_capacity, length-append}
 use Rattle.std.proofs.lemmas.List.{length-map}
 use Rattle.std.proofs.lemmas.List.Sums.{sum_by-cons}
-use Rattle.std.specs.List.{AllByRecursion, sum_by}
+use Rattle.std.specs.List.{sum_by}
 use Rattle.brick_spec.specs.FlowClass.{NatPlan}
 use Rattle.brick_spec.specs.Match.{Match}
 use Rattle.brick_base.specs.declared.memory.NoMemory.{NoMemory}
 use Rattle.batch_ops.specs.Operator.{Meaning}
-use Rattle.flow_spec.specs.Plan as plans
-use Rattle.flow_spec.specs.Plan.{GroupPlan, Plan, leaves_below, flow_meaning}
+use Rattle.flow_spec.specs.Plan.{GroupPlan, leaves_below, flow_meaning}
 use Rattle.flow_work.specs.Node.{fan_results}
 use Rattle.chain_spec.specs.ChainSet as chains
 use Rattle.chain_spec.specs.ChainSet.{windows_in}
-use Rattle.tenant_spec.specs.ChainPlan.{row_of, before_stages, below_plan, group_plan, plan_of}
+use Rattle.tenant_spec.specs.ChainPlan.{before_stages, group_plan}
 use Rattle.chain_nodes.proofs.Plans.{root_means}
 use Rattle.chain_nodes.specs.NewNodes.{pipe_new, fan_new}
 use Rattle.chain_nodes.specs.PlanOf as places
@@ -20,7 +19,7 @@ use Rattle.chain_nodes.specs.declared.either.Either.{Either}
 use Rattle.chain_nodes.specs.declared.fan.Fan.{Fan}
 use Rattle.chain_nodes.specs.declared.leaf.LeafList.{LeafList}
 use Rattle.chain_nodes.specs.declared.pipe.Pipe.{Pipe}
-use Rattle.chain_run.specs.Sound.{IsGroupSound, IsChainSound, IsBareGroup, IsBareBelow}
+use Rattle.chain_run.specs.Sound.{IsGroupSound, IsChainSound, IsBareGroup}
 use Rattle.chain_run.specs.Tree.{below_stands, below_results, below_serves, group_stands, group_results, group_serves, groups_stand, groups_results, groups_serve}
 use Rattle.chain_run.specs.Built.{AreBuilt, IsPath, BelowBuilt, GroupBuilt, GroupsBuilt, RootBuilt}
 use Rattle.chain_run.proofs.Grown.{built_long, built_each, built_where}

@@ -1,7 +1,6 @@
 -- Groups in a group.
-use Rattle.std.proofs.Common.{◌≡◌, ℕ, zero, suc, ◌+◌, ◌<◌, ◌≤◌, List, [], ◌∷◌, ◌++◌, map, length, Option, Result, Ok, Err, IfOk, ◌⊎◌, inl, inr, refl, ap, sym, subst, ◌∙◌, arith, vec_capacity}
+use Rattle.std.proofs.Common.{◌≡◌, ℕ, suc, ◌<◌, List, [], ◌∷◌, map, length, Option, Result, Ok, Err, IfOk, inr, refl, ap, sym, subst, ◌∙◌, vec_capacity}
 use Rattle.std.proofs.lemmas.List.{length-map}
-use Rattle.std.specs.List.{AllByRecursion}
 use Rattle.brick_spec.specs.FlowClass.{NatPlan}
 use Rattle.brick_spec.specs.Match.{Match}
 use Rattle.brick_base.specs.declared.memory.NoMemory.{NoMemory}
@@ -10,16 +9,15 @@ use Rattle.flow_spec.specs.Plan as plans
 use Rattle.flow_work.specs.Node.{fan_results}
 use Rattle.pcap_io.specs.View.{item_view}
 use Rattle.chain_spec.specs.ChainSet as chains
-use Rattle.tenant_spec.specs.ChainPlan.{leaf_plan, below_plan}
+use Rattle.tenant_spec.specs.ChainPlan.{leaf_plan}
 use Rattle.chain_nodes.specs.NewNodes.{list_new, pipe_new, fan_new}
 use Rattle.chain_nodes.specs.PlanOf as places
-use Rattle.chain_nodes.specs.declared.either.Either.{Either}
 use Rattle.chain_nodes.specs.declared.either.Either.TheVariants.{First, Second}
 use Rattle.chain_nodes.specs.declared.fan.Fan.{Fan}
 use Rattle.chain_nodes.specs.declared.leaf.LeafList.{LeafList}
 use Rattle.chain_nodes.specs.declared.pipe.Pipe.{Pipe}
 use Rattle.chain_run.specs.Sound.{IsBareLeaf}
-use Rattle.chain_run.specs.Tree.{list_stands, list_results, list_serves, leaf_stands, leaf_results, leaf_serves, leaves_stand, leaves_results}
+use Rattle.chain_run.specs.Tree.{list_stands, list_results, list_serves, leaf_stands, leaf_results, leaf_serves}
 use Rattle.chain_run.specs.Built.{AreBuilt, IsPath, LeafBuilt, LeavesBuilt, BelowBuilt}
 use Rattle.chain_run.proofs.Grown.{built_long, built_each, built_where}
 use Rattle.chain_run.proofs.Ways.{way_serves, way_bare}

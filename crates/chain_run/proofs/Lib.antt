@@ -6,3 +6,7 @@ mod Grown
 mod Ways
 mod Leaves
 mod Chains
+mod Needs
+mod Sounds
+mod Balances
+mod Cuts

@@ -1,13 +1,12 @@
 -- Plain stages, one after another.
-use Rattle.std.proofs.Common.{◌≡◌, ℕ, suc, zero, ◌+◌, ◌<◌, List, [], ◌∷◌, ◌++◌, map, take, get_or, length, Bool, false, cond, Option, refl, ap, sym, subst, ◌∙◌, arith, append-nil, append_assoc}
-use Rattle.std.proofs.lemmas.List.{take_more, map-append}
+use Rattle.std.proofs.Common.{◌≡◌, ℕ, ◌+◌, ◌<◌, List, [], ◌∷◌, ◌++◌, map, take, get_or, length, cond, Option, refl, ap, sym, subst, ◌∙◌, append-nil, append_assoc}
+use Rattle.std.proofs.lemmas.List.{map-append}
 use Rattle.std.specs.List.{AllByRecursion}
-use Rattle.brick_spec.specs.Flow.{Flow}
 use Rattle.brick_spec.specs.FlowClass.{NatPlan}
 use Rattle.batch_ops.specs.Treat.{stages_at}
 use Rattle.stage_row.specs.Plain.{plain_stage, plain_kind, IsNew}
 use Rattle.stage_row.specs.declared.plain.PlainStage.{PlainStage}
-use Rattle.chain_spec.specs.ChainSet.{Stage, windows_in, is_window}
+use Rattle.chain_spec.specs.ChainSet.{Stage}
 use Rattle.tenant_spec.specs.ChainPlan.{stage_of, row_of}
 use Rattle.chain_run.specs.Plain.{PlainBuilt, AddsPlain}
 use Rattle.chain_run.proofs.Checked.{seen_more, all_pushed, windows_next}

@@ -1,5 +1,5 @@
 -- A store of which all buffers lie ready.
-use Rattle.std.proofs.Common.{◌≡◌, ℕ, zero, suc, List, [], ◌∷◌, length, refl, ap, sym, subst}
+use Rattle.std.proofs.Common.{◌≡◌, ℕ, zero, suc, length, refl, ap, sym, subst}
 use Rattle.packet_owner.specs.Spare.{SpareModel, slots_from}
 
 slots_long : (first n : ℕ) → length (slots_from first n) ≡ n

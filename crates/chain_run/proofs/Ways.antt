@@ -1,5 +1,5 @@
 -- Ways through a chain, and the windows on them.
-use Rattle.std.proofs.Common.{◌≡◌, ℕ, zero, suc, ◌+◌, ◌<◌, ◌≤◌, List, [], ◌∷◌, ◌++◌, map, length, Option, ◌⊎◌, inl, inr, refl, ap, sym, subst, ◌∙◌, arith, vec_capacity}
+use Rattle.std.proofs.Common.{◌≡◌, ℕ, zero, suc, ◌+◌, ◌<◌, ◌≤◌, List, [], ◌∷◌, Option, ◌⊎◌, inl, inr, refl, arith}
 use Rattle.std.specs.List.{AllByRecursion}
 use Rattle.brick_spec.specs.FlowClass.{NatPlan}
 use Rattle.brick_spec.specs.FlowStage.{FlowStage}
@@ -7,7 +7,7 @@ use Rattle.batch_ops.specs.Operator.{Meaning}
 use Rattle.batch_ops.specs.declared.outlet.Passed.{Passed}
 use Rattle.chain_spec.specs.ChainSet.{Stage, Leaf, Below, Output, Inner, Group, windows_in}
 use Rattle.chain_nodes.specs.Node.{PipeServes}
-use Rattle.chain_run.specs.Sound.{AreSound, IsLeafSound, AreLeavesSound, IsBelowSound, IsGroupSound, IsBareLeaf, IsBareBelow, IsBareGroup}
+use Rattle.chain_run.specs.Sound.{AreSound, IsLeafSound, IsBelowSound, IsGroupSound, IsBareLeaf, IsBareBelow, IsBareGroup}
 use Rattle.chain_run.specs.Built.{IsPath}
 
 -- FEWER WINDOWS BEFORE

@@ -5,10 +5,10 @@ use Rattle.brick_spec.specs.Flow.{Flow}
 use Rattle.brick_spec.specs.FlowClass.{NatPlan}
 use Rattle.brick_spec.specs.FlowStage.{FlowStage, nothing}
 use Rattle.batch_ops.specs.Operator.{Meaning}
-use Rattle.flow_spec.specs.Plan.{Plan, GroupPlan, leaf_count, leaves_below, flow_meaning}
+use Rattle.flow_spec.specs.Plan.{GroupPlan, leaf_count, leaves_below, flow_meaning}
 use Rattle.chain_spec.specs.ChainSet as chains
 use Rattle.chain_spec.specs.ChainSet.{windows_in}
-use Rattle.tenant_spec.specs.ChainPlan.{row_of, before_stages, leaf_plan, below_plan, group_plan, plan_of}
+use Rattle.tenant_spec.specs.ChainPlan.{row_of, leaf_plan, below_plan, group_plan, plan_of}
 use Rattle.chain_nodes.specs.PlanOf as places
 use Rattle.chain_nodes.specs.Work.{IsNewNode, none_came}
 use Rattle.chain_nodes.specs.declared.either.Either.{Either}

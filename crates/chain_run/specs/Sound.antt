@@ -41,3 +41,30 @@ IsBareBelow (Inner leaves) = AllByRecursion IsBareLeaf leaves
 
 abbrev pub IsBareGroup : Group → Type 0
 IsBareGroup g = (windows_in g.stages ≡ 0) × IsBareBelow g.below
+
+-- WHAT THE WINDOWS OF A CHAIN NEED: a packet makes no more windows than there are spare buffers, and each has room.
+
+abbrev pub WindowFits : ℕ → ℕ → Stage → Type 0
+WindowFits count bytes (Window size reach) = (reach / size + 1 ≤ count) × (54 + size ≤ bytes)
+WindowFits count bytes _ = Unit {0}
+
+abbrev pub WindowsFit : ℕ → ℕ → List Stage → Type 0
+WindowsFit count bytes stages = AllByRecursion (WindowFits count bytes) stages
+
+abbrev pub LeafFits : ℕ → ℕ → Leaf → Type 0
+LeafFits count bytes l = WindowsFit count bytes l.stages
+
+abbrev pub BelowFits : ℕ → ℕ → Below → Type 0
+BelowFits count bytes (Output o) = Unit {0}
+BelowFits count bytes (Inner leaves) = AllByRecursion (LeafFits count bytes) leaves
+
+abbrev pub GroupFits : ℕ → ℕ → Group → Type 0
+GroupFits count bytes g = WindowsFit count bytes g.stages × BelowFits count bytes g.below
+
+-- No window of a chain needs more: data ends at most 1,048,576 bytes behind the first gap, and a window has 64 to 1,460.
+abbrev pub IsFew : ℕ → ℕ → Type 0
+IsFew count bytes = (count ≤ 16385) × (bytes ≤ 1514)
+
+-- as many buffers as before and more, and as many bytes
+abbrev pub IsMore : ℕ → ℕ → ℕ → ℕ → Type 0
+IsMore old_count old_bytes count bytes = (old_count ≤ count) × (old_bytes ≤ bytes) × IsFew count bytes

@@ -2,7 +2,6 @@
 #![tactic(auto)]
 
 mod below;
-mod check;
 mod groups;
 mod need;
 mod path;
@@ -13,8 +12,8 @@ mod sent;
 mod tree_work;
 
 pub use below::{LeafPlace, build_leaf};
-pub use check::is_chain_served;
 pub use groups::{GroupPlace, build_group};
+pub use need::{Need, need_of};
 pub use path::{ChainPath, TenantWork};
 pub use paths::{Site, StagesPath};
 pub use root::{RootPlace, build_root};

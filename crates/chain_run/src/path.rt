@@ -1,8 +1,11 @@
 //! The paths of a chain.
 
-ghost use Rattle.std.specs.Prelude.{◌≡◌, ◌<◌, ◌+◌, length, take, drop, IfOk, IfSome};
-ghost use Rattle.chain_types.specs.StageView.{stage_view};
-ghost use Rattle.chain_run.specs.Plain.{WindowBuilt};
+ghost use Rattle.std.specs.Prelude.{ℕ, ◌≡◌, ◌<◌, ◌+◌, length, take, drop, IfNone, IfSome, IsTrue};
+ghost use Rattle.chain_spec.specs.ChainSet as spec;
+ghost use Rattle.chain_spec.specs.ChainSet.{windows_in};
+ghost use Rattle.chain_types.specs.StageView.{stage_view, stages_view};
+ghost use Rattle.chain_run.specs.Plain.{IsFirstWindow, WindowBuilt};
+ghost use Rattle.chain_run.specs.Sound.{WindowFits};
 
 use crate::paths::{Site, StagesPath};
 use crate::plain::{add_plain, first_stages};
@@ -22,12 +25,20 @@ pub type ChainPath = StagePath<PlainStage, WindowStage>;
 /// A tenant's chain at work.
 pub type TenantWork = TreeWork<StagePath<PlainStage, WindowStage>>;
 
-/// The place of the first window.
+/// Whether it is a window.
+fn is_window(stage: &Stage) -> bool
+    ensures { result ≡ spec.is_window (stage_view stage.now) }
+{
+    matches!(stage, Stage::Window { .. })
+}
+
+/// The place of the first window: None where there is none.
 fn first_window(stages: &[Stage]) -> Option<usize>
-    ensures { IfSome result (λ at. at < length stages.now) }
+    ensures none { IfNone result (windows_in (stages_view stages.now) ≡ 0) }
+    ensures some { IfSome result (λ at. (at < length stages.now) × IsFirstWindow at (stages_view stages.now)) }
 {
     for at in 0..stages.len() {
-        if matches!(stages[at], Stage::Window { .. }) {
+        if is_window(&stages[at]) {
             return Some(at);
         }
     }
@@ -50,20 +61,16 @@ fn stages_behind(stages: &[Stage], at: usize) -> &[Stage]
     &stages[at + 1..]
 }
 
-/// The window that a stage is.
-fn window_of(alloc: Global, site: &Site, stage: &Stage) -> Result<WindowStage, NoMemory>
-    ensures { IfOk result (λ w. WindowBuilt site.now.count site.now.bytes (stage_view stage.now) w) }
+/// The window that a stage is. It fits beside each store of spare buffers beside which the stage does.
+fn window_of(alloc: Global, stage: &Stage) -> WindowStage
+    requires window { IsTrue (spec.is_window (stage_view stage.now)) }
+    requires right { IsTrue (spec.is_stage_right (stage_view stage.now)) }
+    ensures { (count bytes : ℕ) → WindowFits count bytes (stage_view stage.now) → WindowBuilt count bytes (stage_view stage.now) result }
 {
-    let Stage::Window { size, reach } = stage else {
-        return Err(NoMemory);
-    };
-    if *size < 64 || *size > 1460 || *reach < 1460 || *reach > 1048576 {
-        return Err(NoMemory);
+    match stage {
+        Stage::Window { size, reach } => WindowStage::new(alloc, *size, *reach),
+        _ => unreachable!(),
     }
-    if *reach / *size >= site.count || 54 + *size > site.bytes {
-        return Err(NoMemory);
-    }
-    Ok(WindowStage::new(alloc, *size, *reach))
 }
 
 impl StagesPath for Path<PlainStage, Option<Then<WindowStage, ReadRow<PlainStage>>>> {
@@ -81,7 +88,7 @@ impl StagesPath for Path<PlainStage, Option<Then<WindowStage, ReadRow<PlainStage
             }
             Some(at) => {
                 add_plain(alloc, &site.nat, stages_before(stages, at), &mut before)?;
-                let window = window_of(alloc, site, &stages[at])?;
+                let window = window_of(alloc, &stages[at]);
                 let mut after = Vec::new(alloc);
                 add_plain(alloc, &site.nat, stages_behind(stages, at), &mut after)?;
                 Path::bent(alloc, before, window, after, site.count)

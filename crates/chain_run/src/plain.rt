@@ -1,15 +1,13 @@
 //! The plain stages of a chain.
 
 ghost use Rattle.std.specs.Prelude.{Option, map, option_map, IfOk, OnOk, IsTrue};
-ghost use Rattle.std.specs.List.{AllByRecursion};
 ghost use Rattle.chain_spec.specs.ChainSet as spec;
 ghost use Rattle.flow_key.specs.View.{plan_view};
 ghost use Rattle.lpm_fw.specs.RuleView.{rule_view, verdict_view};
 ghost use Rattle.chain_types.specs.ChainParts.{unparsed_view};
 ghost use Rattle.chain_types.specs.StageView.{stage_view, stages_view, backends_view, change_view};
 ghost use Rattle.brick_spec.specs.FlowClass.{NatPlan as NatPlanMeaning};
-ghost use Rattle.flow_stages.specs.Rows.{AreFew, change_few};
-ghost use Rattle.chain_run.specs.Plain.{PlainBuilt, AddsPlain, IsFirst};
+ghost use Rattle.chain_run.specs.Plain.{IsPlain, ArePlain, PlainBuilt, AddsPlain, IsFirst};
 
 use brick_base::NoMemory;
 use chain_types::{Backend, Change, Stage, Unparsed};
@@ -35,42 +33,23 @@ fn firewall_of(
     Ok(PlainStage::Firewall(stage))
 }
 
-/// Whether there are 1 to 64.
-fn are_few(backends: &[Backend]) -> bool
-    ensures { IsTrue result → AreFew backends.now }
-{
-    !backends.is_empty() && backends.len() <= 64
-}
-
-/// Whether each change has 1 to 64.
-fn are_changes_few(changes: &[Change]) -> bool
-    ensures { IsTrue result → AllByRecursion change_few changes.now }
-{
-    for change in changes {
-        if !are_few(change.backends.as_slice()) {
-            return false;
-        }
-    }
-    true
-}
-
 /// The stage of backends and their changes.
 fn balance_of(
     alloc: Global,
     backends: &[Backend],
     changes: &[Change],
 ) -> Result<PlainStage, NoMemory>
+    requires { IsTrue (spec.is_stage_right (spec.Balance (backends_view backends.now) (map change_view changes.now))) }
     ensures { IfOk result (λ p. (nat : Option NatPlanMeaning) → PlainBuilt nat (spec.Balance (backends_view backends.now) (map change_view changes.now)) p) }
 {
-    if !are_few(backends) || !are_changes_few(changes) || changes.len() > 15 {
-        return Err(NoMemory);
-    }
     let stage = BalanceStage::new(alloc, backends, changes)?;
     Ok(PlainStage::Balance(stage))
 }
 
-/// The plain stage that a stage is. There is none for a window.
+/// The plain stage that a stage is.
 fn plain_of(alloc: Global, nat: &Option<NatPlan>, stage: &Stage) -> Result<PlainStage, NoMemory>
+    requires right { IsTrue (spec.is_stage_right (stage_view stage.now)) }
+    requires plain { IsPlain (option_map plan_view nat.now) (stage_view stage.now) }
     ensures { IfOk result (λ p. PlainBuilt (option_map plan_view nat.now) (stage_view stage.now) p) }
 {
     match stage {
@@ -87,13 +66,14 @@ fn plain_of(alloc: Global, nat: &Option<NatPlan>, stage: &Stage) -> Result<Plain
             mac: *mac,
         })),
         Stage::Nat => match nat {
-            None => Err(NoMemory),
+            None => unreachable!(),
             Some(plan) => Ok(PlainStage::Nat(NatStage { plan: *plan })),
         },
         Stage::Balance { backends, changes } => {
             balance_of(alloc, backends.as_slice(), changes.as_slice())
         }
-        Stage::Window { .. } => Err(NoMemory),
+        Stage::Window { .. } => unreachable!(),
+        // No work of a stage `scan` is built: the reader of chain files refuses it.
         Stage::Scan { .. } => Err(NoMemory),
     }
 }
@@ -105,6 +85,7 @@ pub(crate) fn add_plain(
     stages: &[Stage],
     plain: &mut Vec<PlainStage>,
 ) -> Result<(), NoMemory>
+    requires { ArePlain (option_map plan_view nat.now) (stages_view stages.now) }
     ensures { OnOk result (AddsPlain (option_map plan_view nat.now) (stages_view stages.now) plain.old.items plain.new.items) }
 {
     for stage in stages {

@@ -4,7 +4,6 @@ ghost use Rattle.chain_nodes.specs.Work.{StandsFor, EndedWith, IsReady};
 ghost use Rattle.chain_run.specs.Tree.{root_stands, root_makes, root_results, root_serves};
 ghost use Rattle.work_core.specs.AnswerLaws.{plan_answer, plan_lists, plan_rises, plan_keys, plan_counts};
 
-use crate::check::is_chain_served;
 use crate::need::need_of;
 use crate::paths::StagesPath;
 use crate::root::build_root;
@@ -64,12 +63,9 @@ impl<P: StagesPath + Send> ChainWork for TreeWork<P> {
 
 impl<P: StagesPath + Send> NewWork for TreeWork<P> {
     fn of_chain(alloc: Global, chain: &Chain) -> Result<TreeWork<P>, NoMemory> {
-        let (count, bytes) = need_of(chain);
-        if count > 65536 || !is_chain_served(chain, count, bytes) {
-            return Err(NoMemory);
-        }
-        let root = build_root(alloc, chain, count, bytes)?;
-        let spare = Spare::new(alloc, count, bytes)?;
+        let need = need_of(chain);
+        let root = build_root(alloc, chain, need.count, need.bytes)?;
+        let spare = Spare::new(alloc, need.count, need.bytes)?;
         let work = NodeWork::new(alloc, root, spare)?;
         Ok(TreeWork { work })
     }

@@ -1,4 +1,3 @@
-use Rattle.std.proofs.Common.{map}
 use Rattle.std.specs.Prelude.{option_map}
 use Rattle.flow_key.specs.View.{plan_view}
 use Rattle.chain_types.specs.BelowView.{leaf_view}

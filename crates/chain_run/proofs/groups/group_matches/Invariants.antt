@@ -1,7 +1,6 @@
-use Rattle.std.proofs.Common.{◌≡◌, ◌++◌, drop, map, Option}
+use Rattle.std.proofs.Common.{◌≡◌, ◌++◌, drop, map}
 use Rattle.std.specs.Prelude.{option_map}
 use Rattle.tcp_udp.specs.MatchView.{match_view}
-use Rattle.chain_types.specs.BelowView.{leaf_view}
 use Rattle.chain_types.specs.GroupView.{group_view}
 use Rattle.chain_spec.specs.ChainSet as chains
 use Rattle.chain_run.proofs.groups.group_matches.Given as goal
