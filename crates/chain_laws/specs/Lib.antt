@@ -1,0 +1,5 @@
+pub mod Accepted
+pub mod Keys
+pub mod Counts
+pub mod SharedRest
+pub mod Right
