@@ -1,0 +1,9 @@
+mod Numbers
+mod Sharing
+mod Answers
+mod Records
+mod Leaves
+mod Tenants
+mod Sides
+mod Wholes
+mod Works
