@@ -1,0 +1,6 @@
+use Rattle.lane_queue.specs.Turns.{HasSentBelow}
+use Rattle.lane_queue.specs.Seats.{ingest_of, IsIngestOf}
+use Rattle.lane_queue.proofs.tests.send_in_turns.Given as goal
+
+abbrev pub invariant-loop : goal.invariant-loop
+invariant-loop g l = record { own : IsIngestOf l.lane l.seat; sent : HasSentBelow l.k (ingest_of l.seat) }
