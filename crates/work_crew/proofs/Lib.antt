@@ -1,0 +1,17 @@
+pub mod Ingests
+pub mod Jobs
+pub mod Steps
+pub mod Begins
+pub mod Wholes
+pub mod Serves
+pub mod Rounds
+pub mod Members
+pub mod Shares
+pub mod Unused
+pub mod Rows
+pub mod Crews
+pub mod Setting
+pub mod Running
+pub mod Ends
+pub mod Results
+pub mod Dones

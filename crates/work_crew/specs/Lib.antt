@@ -1,0 +1,12 @@
+pub mod Records
+pub mod JobView
+pub mod Ingested
+pub mod Worked
+pub mod Served
+pub mod Members
+pub mod Lanes
+pub mod IngestSides
+pub mod WorkerSides
+pub mod Rows
+pub mod Crews
+pub mod Dones
