@@ -1,7 +1,8 @@
 #!/bin/sh
-# Counts the instructions that mode `inline` takes a record, for 20,000 and 200,000 records of 64 bytes in 500 flows: for `ttl` and `only`, and
-# for a firewall of 16 rules before a route of 64 rows. Fails where a count is above its bar, or where a record of the longer capture
-# takes more than 1.03 times the instructions. Wants valgrind and python3.
+# Counts the instructions that mode `inline` takes a record, for 20,000 and 200,000 records of 64 bytes in 500 flows: for `ttl` and `only`,
+# for a firewall of 16 rules before a route of 64 rows, and for a row of `ttl`, `only`, a firewall of 8 rules and a route of 16 rows. Fails
+# where a count is above its bar, or where a record of the longer capture takes more than 1.03 times the instructions. Wants valgrind and
+# python3.
 top=$(cd "$(dirname "$0")/.." && pwd) || exit 1
 for tool in valgrind python3; do
     if ! command -v $tool >/dev/null 2>&1; then
@@ -54,3 +55,4 @@ for third in $(seq 0 63); do
 done
 measure '{ stage = "ttl" }, { stage = "only", match = { proto = "udp" } }' "ttl, only" 1500
 measure "{ stage = \"firewall\", default = \"deny\", rule = [$rules] }, { stage = \"route\", mac = \"0a:00:00:00:00:0b\", route = [$routes] }" "firewall, route" 2000
+measure row "ttl, only, firewall of 8 rules, route of 16 rows" 3000

@@ -1,7 +1,9 @@
 #!/usr/bin/env python3
 """Writes a capture of many UDP records, and a chain file of one tenant for it: make_records.py COUNT CAPTURE CHAINS STAGES [BYTES]
 
-Each frame is 42 bytes of headers and BYTES bytes, 22 where no number is given."""
+STAGES is the text of the stages, or `row`: the stages ttl, only, a firewall of 8 rules and a route of 16 rows, which every record passes.
+Each frame is 42 bytes of headers and BYTES bytes, 22 where no number is given.
+"""
 import os
 import sys
 
@@ -9,7 +11,26 @@ sys.dont_write_bytecode = True
 sys.path.insert(0, os.path.join(os.path.dirname(os.path.abspath(__file__)), "..", "examples"))
 from packets import at, capture, udp, write
 
+
+def firewall(rules):
+    """A firewall of so many rules, of which the last allows each record and no other is met."""
+    denied = ['{ verdict = "deny", match = { dport = %d } }' % port for port in range(1, rules)]
+    return '{ stage = "firewall", default = "deny", rule = [%s] }' % ", ".join(denied + ['{ verdict = "allow", match = { proto = "udp" } }'])
+
+
+def route(rows):
+    """A route of so many rows, of which the third is that of each record."""
+    found = ['{ to = "10.1.%d.0/24", via = "0c:00:00:00:00:01" }' % third for third in range(rows)]
+    return '{ stage = "route", mac = "0a:00:00:00:00:0b", route = [%s] }' % ", ".join(found)
+
+
+def row():
+    return ", ".join(['{ stage = "ttl" }', '{ stage = "only", match = { proto = "udp" } }', firewall(8), route(16)])
+
+
 count, name, chains, stages = int(sys.argv[1]), sys.argv[2], sys.argv[3], sys.argv[4]
+if stages == "row":
+    stages = row()
 data = bytes(int(sys.argv[5]) if len(sys.argv) > 5 else 22)
 frames = [udp("10.0.%d.%d" % (k // 250, k % 250 + 1), 1000 + k, "10.1.2.3", 53, data) for k in range(500)]
 write(name, capture([at(k, frames[k % 500]) for k in range(count)]))
