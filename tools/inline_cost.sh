@@ -26,6 +26,7 @@ instructions() {
     valgrind --tool=callgrind --callgrind-out-file=/dev/null "$program" inline c.toml . 2>&1 >/dev/null | sed -n 's/.*Collected : //p'
 }
 
+failed=0
 # stages, what they are called, and their bar
 measure() {
     none=$(instructions 0 "$1")
@@ -40,7 +41,7 @@ measure() {
     echo "$2: $each instructions a record, $later in a capture ten times as long"
     if [ "$each" -gt "$3" ] || [ $((later * 100)) -gt $((each * 103)) ]; then
         echo "$2: more than $3, or more in the longer capture" >&2
-        exit 1
+        failed=1
     fi
 }
 
@@ -56,3 +57,4 @@ done
 measure '{ stage = "ttl" }, { stage = "only", match = { proto = "udp" } }' "ttl, only" 1500
 measure "{ stage = \"firewall\", default = \"deny\", rule = [$rules] }, { stage = \"route\", mac = \"0a:00:00:00:00:0b\", route = [$routes] }" "firewall, route" 2000
 measure row "ttl, only, firewall of 8 rules, route of 16 rows" 3000
+exit $failed
