@@ -14,10 +14,10 @@ pub enum Dir {
 pub struct Ends {
     /// The source address.
     pub src: u32,
-    /// The source port.
-    pub sport: u16,
     /// The destination address.
     pub dst: u32,
+    /// The source port.
+    pub sport: u16,
     /// The destination port.
     pub dport: u16,
 }
@@ -29,14 +29,14 @@ pub struct Class {
     pub flow: u32,
     /// The number of the record that opened the flow, from 0 at the head of the capture.
     pub opened: u32,
-    /// Its direction in the flow.
-    pub dir: Dir,
     /// How many ranked flows of the tenant were opened before this one, where it has a rank.
     pub rank: Option<u32>,
     /// The hash of the flow's key.
     pub hash: u64,
     /// The ends of the flow's first record, all 0 for frames without an IPv4 layer.
     pub first: Ends,
+    /// Its direction in the flow.
+    pub dir: Dir,
     /// The flow is that of all frames without an IPv4 layer.
     pub other: bool,
 }

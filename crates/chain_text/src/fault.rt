@@ -8,31 +8,43 @@ ghost use Rattle.chain_text.specs.declared.fault.ChainFault.TheVariants.{NoMemor
 use brick_base::{Name, NoMemory};
 use lpm_fw::RouteFault;
 use std::alloc::{AllocError, AllocFailed, Global};
+use thiserror::Error;
 
 /// The first fault of a chain file. The place is 0 in the top table, and t + 1 within tenant t, counted from 0.
-#[derive(Debug, Drop)]
+#[derive(Debug, Drop, Error)]
 pub enum ChainFault {
     /// It is no text, or `toml` refuses the text.
+    #[error("the chain file is no TOML")]
     NotToml,
     /// A key that has to be there is not.
+    #[error("at place {place} the key `{key}` is missing")]
     Missing { place: u32, key: Name },
     /// The least key by bytes that its table does not have.
+    #[error("at place {place} the key `{key}` is unknown")]
     Unknown { place: u32, key: Name },
     /// A value of the wrong kind, or outside what may stand there.
+    #[error("at place {place} the value of `{key}` is none that may stand there")]
     Range { place: u32, key: Name },
     /// A text that is no name, or a name that stands twice in its array.
+    #[error("at place {place} a text is no name, or stands twice")]
     Name { place: u32 },
     /// A second `window` on a path: in a tenant's stages, a group's, and those of a group in it.
+    #[error("at place {place} a second window stands on a path")]
     SecondWindow { place: u32 },
     /// What is wrong with the rows of a stage `route`.
+    #[error("at place {place} the routes are refused: {fault}")]
     Route { place: u32, fault: RouteFault },
     /// How many tenants there are, where these are too many.
+    #[error("{count} tenants are more than 16")]
     TooManyTenants { count: u32 },
     /// A file of the run has the name of the chain file or of a capture.
+    #[error("a file of the run would be `{name}`, which is read")]
     Collides { name: Name },
     /// More bytes than are read.
+    #[error("the chain file has more than 1048576 bytes")]
     TooLong,
     /// Memory ran out.
+    #[error("out of memory")]
     NoMemory,
 }
 

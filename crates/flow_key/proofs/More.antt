@@ -1,8 +1,9 @@
 -- A flow more, in the list and in the maps.
 use Rattle.std.proofs.Common.{◌≡◌, ℕ, ◌+◌, ◌<◌, ◌≤◌, Bool, true, false, cond, ltb, eqb, nat_eq, ◌&&◌, refl, sym, ◌∙◌, ap, subst, not, arith, inl, inr, ◌⊎◌, ⊎_elim, List, [], ◌∷◌, ◌++◌, length, Option, Some, None}
 use Rattle.std.specs.List.{position, position_or_len, slice_get, count_by}
+use Rattle.std.specs.Map.{lookup}
 use Rattle.std.specs.Option.{is_none, is_some, option_or, option_map}
-use Rattle.std.specs.BTreeMap.{BTreeMap, get, is_at}
+use Rattle.std.specs.BTreeMap.{BTreeMap, IsEmpty, get, is_at}
 use Rattle.std.specs.Ordering.{is_eq, ordering_then, nat_cmp}
 use Rattle.std.specs.declared.cmp.Ordering.{Ordering}
 use Rattle.std.specs.declared.cmp.Ordering.TheVariants.{Less, Equal, Greater}
@@ -17,7 +18,7 @@ use Rattle.flow_key.specs.declared.key.End.{End}
 use Rattle.brick_spec.specs.Tuple.{Tuple}
 use Rattle.brick_spec.specs.FlowClass.{Opened, End as SpecEnd, Key as SpecKey, key_of, is_same_key, is_same_end, flow_at, has_first_key, has_key, is_other_flow, is_ranked, same_key_of, found_by}
 use Rattle.flow_key.specs.View.{end_view, key_view}
-use Rattle.flow_key.specs.Maps.{AreRanks, AreFound, key_cmp, end_cmp}
+use Rattle.flow_key.specs.Maps.{AreRanks, AreFound, AreMaps, HaveOwnKeys, key_cmp, end_cmp}
 use Rattle.brick_spec.proofs.Tests.{option_or-none}
 
 push_numbers : (a n : ℕ) (b : Bool) → a ≤ n → cond {A = Option ℕ} (ltb (cond (eqb a n) (n + cond b 0 1) a) (n + 1)) (Some (cond (eqb a n) (n + cond b 0 1) a)) None ≡ option_or (cond (ltb a n) (Some a) None) (cond b (Some n) None)
@@ -129,6 +130,18 @@ rank_more flows ranks new true kept rank = record {
   counted = length_push ranks (length flows) ∙ (let m : ℕ = count_by is_ranked flows in ap (λ (n : ℕ). n + 1) kept.counted ∙ sym (sum_by_push (λ (f : Opened). cond {A = ℕ} (is_ranked f) 1 0) flows new ∙ ap (λ (o : Option ℕ). m + cond {A = ℕ} (is_some o) 1 0) rank));
 }
 
+own_more : (flows : List Opened) (t : Option Tuple) (new : Opened) → HaveOwnKeys flows → new.first ≡ t → same_key_of flows t ≡ None → HaveOwnKeys (flows ++ new ∷ [])
+own_more flows t new own first none i k below has = ⊎_elim
+    (λ less. position_push (has_key k) flows new
+    ∙ ap (λ o. option_or o (cond {A = Option ℕ} (has_key k new) (Some (length flows)) None)) (own i k less (ap (has_key k) (sym (flow_below flows new i less)) ∙ has)))
+    (λ last.
+    let h : has_first_key k t ≡ true = ap (has_first_key k) (sym first) ∙ ap (has_key k) (sym (flow_end flows new i last)) ∙ has in
+    position_push (has_key k) flows new
+    ∙ ap (λ o. option_or o (cond {A = Option ℕ} (has_key k new) (Some (length flows)) None)) (missing flows t k none h)
+    ∙ ap (λ b. option_or None (cond {A = Option ℕ} b (Some (length flows)) None)) (ap (has_first_key k) first ∙ h)
+    ∙ ap Some last)
+    (within_push flows new i below)
+
 pub found_more : (flows : List Opened) (keys keys' : BTreeMap Key ℕ) (other other' : Option ℕ) (ranks ranks' : List ℕ) (t : Option Tuple) (new : Opened) (goes : Bool)
     → AreFound flows keys other ranks → new.first ≡ t → same_key_of flows t ≡ None
     → ((q : Key) → get key_cmp keys' q ≡ cond (has_first_key (key_view q) t) (Some (length flows)) (get key_cmp keys q))
@@ -137,6 +150,7 @@ pub found_more : (flows : List Opened) (keys keys' : BTreeMap Key ℕ) (other ot
     → AreFound (flows ++ new ∷ []) keys' other' ranks'
 found_more flows keys keys' other other' ranks ranks' t new goes kept first none k o r rank = record {
   by_key = λ q. k q ∙ key_more flows t new (key_view q) (get key_cmp keys q) first none (kept.by_key q);
+  own_keys = own_more flows t new kept.own_keys first none;
   by_other = o ∙ other_more flows t new other first none kept.by_other;
   by_rank = subst (AreRanks (flows ++ new ∷ [])) (sym r) (rank_more flows ranks new goes kept.by_rank rank);
 }
@@ -193,3 +207,21 @@ found_opened flows flows' keys keys' other other' ranks reserved ranks' t new go
 pub is_none-map : {X Y : Type 0} (v : X → Y) (o : Option X) (n : ℕ) (other : Option ℕ) → cond (is_none o) (Some n) other ≡ cond (is_none (option_map v o)) (Some n) other
 is_none-map v None n other = refl
 is_none-map v (Some x) n other = refl
+
+-- the maps before a flow was opened
+pub no_flows : (flows : List Opened) (keys : BTreeMap Key ℕ) (ranks : List ℕ) → flows ≡ [] → IsEmpty keys → ranks ≡ [] → AreMaps flows keys None ranks 0
+no_flows flows keys ranks none empty no_ranks =
+    subst (λ (fs : List Opened). AreMaps fs keys None ranks 0) (sym none) (subst (λ (rs : List ℕ). AreMaps [] keys None rs 0) (sym no_ranks) (record {
+      found = record {
+        by_key = λ k. ap (λ es. lookup (is_at (key_cmp k)) es) empty;
+        own_keys = λ i k below. absurd (omega (arith, below));
+        by_other = refl;
+        by_rank = record {
+          here = λ r i e. absurd (none-some i e);
+          all = λ i r below. absurd (omega (arith, below));
+          counted = refl;
+        };
+      };
+      few = omega arith;
+      counted = omega arith;
+    }))

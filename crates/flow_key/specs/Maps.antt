@@ -1,5 +1,5 @@
 -- What a classifier keeps, and what its maps find.
-use Rattle.std.specs.Prelude.{ℕ, ◌≡◌, ◌+◌, ◌<◌, ◌≤◌, ◌^◌, Option, Some, List, length, count_by}
+use Rattle.std.specs.Prelude.{ℕ, ◌≡◌, ◌+◌, ◌<◌, ◌≤◌, ◌^◌, true, Option, Some, List, length, count_by}
 use Rattle.std.specs.Ordering.{nat_cmp, ordering_then}
 use Rattle.std.specs.declared.cmp.Ordering.{Ordering}
 use Rattle.std.specs.List.{position, slice_get}
@@ -40,9 +40,14 @@ pub record AreRanks (flows : List spec.Opened) (ranks : List ℕ) : Type 0 where
   pub all : (i r : ℕ) → i < length flows → (spec.flow_at flows i).rank ≡ Some r → slice_get ranks r ≡ Some i
   pub counted : length ranks ≡ count_by spec.is_ranked flows
 
+-- no two flows have one key: a search for the key of a flow finds that flow
+abbrev pub HaveOwnKeys : List spec.Opened → Type 0
+HaveOwnKeys flows = (i : ℕ) (k : spec.Key) → i < length flows → spec.has_key k (spec.flow_at flows i) ≡ true → position (spec.has_key k) flows ≡ Some i
+
 -- the maps find what a search of the flows finds
 pub record AreFound (flows : List spec.Opened) (keys : BTreeMap Key ℕ) (other : Option ℕ) (ranks : List ℕ) : Type 0 where
   pub by_key : (k : Key) → get key_cmp keys k ≡ position (spec.has_key (key_view k)) flows
+  pub own_keys : HaveOwnKeys flows
   pub by_other : other ≡ position spec.is_other_flow flows
   pub by_rank : AreRanks flows ranks
 

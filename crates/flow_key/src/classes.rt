@@ -21,7 +21,7 @@ pub fn classify_all(
     ensures { IfOk result (λ classes. map class_view classes.items ≡ spec.classes_of (option_map plan_view nat) (frames_of capture.now)) }
 {
     let mut classifier = Classifier::new(alloc, nat)?;
-    let mut classes = Vec::new(alloc);
+    let mut classes = Vec::with_capacity(alloc, capture.count() as usize)?;
     for k in 0..capture.count() {
         let class = classifier.classify(capture.entry(k).frame)?;
         classes.push(class)?;

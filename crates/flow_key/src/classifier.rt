@@ -12,7 +12,7 @@ ghost use Rattle.flow_key.specs.Maps.{key_cmp};
 ghost use Rattle.flow_key.specs.declared.key.Key.{Key};
 
 use crate::ends::key_of;
-use crate::key::Key;
+use crate::key::{Key, SLOTS, slot_of};
 use crate::opened::Opened;
 use crate::plan::NatPlan;
 use crate::search::{class_with, find, goes_out};
@@ -28,6 +28,8 @@ pub struct Classifier {
     plan: Option<NatPlan>,
     flows: Vec<Opened>,
     keys: BTreeMap<Key, u32>,
+    // at each slot the flow that was opened last of those whose keys have it: most searches end there
+    recent: Vec<u32>,
     other: Option<u32>,
     // the flow at each rank
     ranks: Vec<u32>,
@@ -58,6 +60,7 @@ impl Classifier {
             plan: nat,
             flows: Vec::new(alloc),
             keys: BTreeMap::new(alloc),
+            recent: vec![in alloc; 0u32; SLOTS]?,
             other: None,
             ranks: Vec::new(alloc),
             records: 0,
@@ -85,6 +88,7 @@ impl Classifier {
             &self.plan,
             &self.flows,
             &self.keys,
+            &self.recent,
             self.other,
             &self.ranks,
             tuple,
@@ -113,6 +117,7 @@ impl Classifier {
         let rank = put_rank(&mut self.ranks, ranked, number);
         let flow = Opened::by(tuple, rank, self.records as u32);
         push_flow(&mut self.flows, flow);
+        note_recent(&mut self.recent, tuple, number);
         self.records += 1;
         Ok(class_with(number, Dir::Forward, flow))
     }
@@ -136,6 +141,16 @@ fn put_key(
         *other = Some(number);
     }
     Ok(())
+}
+
+/// The flow of the slot of the tuple's key is this one.
+fn note_recent(recent: &mut Vec<u32>, tuple: &Option<Tuple>, number: u32) {
+    if let Some(tuple) = tuple {
+        let slot = slot_of(&key_of(tuple));
+        if slot < recent.len() {
+            recent[slot] = number;
+        }
+    }
 }
 
 /// The flow of the next rank is this one, where it has a rank.

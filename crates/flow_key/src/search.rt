@@ -9,11 +9,11 @@ ghost use Rattle.tcp_udp.specs.View.{tuple_view};
 ghost use Rattle.flow_key.specs.View.{plan_view, key_view};
 ghost use Rattle.flow_key.specs.OpenedView.{opened_view};
 ghost use Rattle.flow_key.specs.Found.{found_view};
-ghost use Rattle.flow_key.specs.Maps.{AreRanks, AreFound, key_cmp};
+ghost use Rattle.flow_key.specs.Maps.{AreRanks, AreFound, HaveOwnKeys, key_cmp};
 ghost use Rattle.flow_key.specs.declared.key.Key.{Key};
 
 use crate::ends::{destination_end, is_same_end, key_of, source_end};
-use crate::key::Key;
+use crate::key::{Key, slot_of};
 use crate::opened::Opened;
 use crate::plan::NatPlan;
 use brick_base::{Class, Dir, Ends};
@@ -134,6 +134,7 @@ pub(crate) fn find(
     plan: &Option<NatPlan>,
     flows: &[Opened],
     keys: &BTreeMap<Key, u32>,
+    recent: &[u32],
     other: Option<u32>,
     ranks: &[u32],
     tuple: &Option<Tuple>,
@@ -145,7 +146,7 @@ pub(crate) fn find(
     if let Some(number) = reply_of(plan, flows, ranks, tuple) {
         return Some((number, Dir::Reversed));
     }
-    match same_key_of(flows, keys, other, tuple) {
+    match same_key_of(flows, keys, recent, other, tuple) {
         Some(number) => Some((number, direction(flows[number as usize].first, tuple))),
         None => None,
     }
@@ -167,19 +168,63 @@ fn reply_of(
     }
 }
 
+/// Whether a flow of this first frame has the key.
+fn has_key(key: &Key, first: &Option<Tuple>) -> bool
+    ensures { result ≡ spec.has_first_key (key_view key.now) (option_map tuple_view first.now) }
+{
+    match first {
+        Some(first) => {
+            let own = key_of(first);
+            own.proto == key.proto
+                && is_same_end(own.low, key.low)
+                && is_same_end(own.high, key.high)
+        }
+        None => false,
+    }
+}
+
+/// The flow of the key, where it was opened last of those with the key's slot.
+fn recent_of(flows: &[Opened], recent: &[u32], key: &Key) -> Option<u32>
+    requires { HaveOwnKeys (map opened_view flows.now) }
+    ensures same { IfSome result (λ number. Some number ≡ position (spec.has_key (key_view key.now)) (map opened_view flows.now)) }
+    ensures within { IfSome result (λ number. number < length flows.now) }
+{
+    let slot = slot_of(key);
+    if slot >= recent.len() {
+        return None;
+    }
+    let number = recent[slot];
+    if number as usize >= flows.len() {
+        return None;
+    }
+    if has_key(key, &flows[number as usize].first) {
+        Some(number)
+    } else {
+        None
+    }
+}
+
 fn same_key_of(
     flows: &[Opened],
     keys: &BTreeMap<Key, u32>,
+    recent: &[u32],
     other: Option<u32>,
     tuple: &Option<Tuple>,
 ) -> Option<u32>
     requires key { (k : Key) → get key_cmp keys.now k ≡ position (spec.has_key (key_view k)) (map opened_view flows.now) }
+    requires own { HaveOwnKeys (map opened_view flows.now) }
     requires other { other ≡ position spec.is_other_flow (map opened_view flows.now) }
     ensures same { result ≡ spec.same_key_of (map opened_view flows.now) (option_map tuple_view tuple.now) }
     ensures within { IfSome result (λ number. number < length flows.now) }
 {
     match tuple {
-        Some(tuple) => keys.get(&key_of(tuple)).copied(),
+        Some(tuple) => {
+            let key = key_of(tuple);
+            match recent_of(flows, recent, &key) {
+                Some(number) => Some(number),
+                None => keys.get(&key).copied(),
+            }
+        }
         None => other,
     }
 }

@@ -1,4 +1,4 @@
-ghost use Rattle.std.specs.Prelude.{◌≡◌, ◌≤◌, ◌+◌, ◌++◌, [], ◌∷◌, length, take, drop, replicate, Some, None, IfOk, IfErr, OnErr};
+ghost use Rattle.std.specs.Prelude.{ℕ, ◌≡◌, ◌≤◌, ◌+◌, ◌++◌, [], ◌∷◌, length, take, drop, replicate, Some, None, IfOk, IfErr, OnErr, vec_len, vec_capacity};
 ghost use Rattle.std.specs.Borrow.{sem};
 ghost use Rattle.brick_spec.specs.Item.{item_of};
 ghost use Rattle.pcap_io.specs.View.{entry_view, item_view};
@@ -32,6 +32,19 @@ impl<P: Proto> Model for Packet<P> {
     ghost invariant = { λ p. IsSound P.DEPTH p.block.value };
 }
 
+/// Makes bytes long enough for `len` bytes, for which there is memory.
+fn reach(bytes: &mut Vec<u8>, len: usize)
+    requires { len ≤ vec_capacity bytes.old }
+    ensures long { len ≤ vec_len bytes.new }
+    ensures within { (room : ℕ) → len ≤ room → vec_len bytes.old ≤ room → vec_len bytes.new ≤ room }
+    ensures memory { vec_capacity bytes.old ≤ vec_capacity bytes.new }
+{
+    if bytes.len() < len {
+        let done = bytes.resize(len, 0);
+        done.unwrap();
+    }
+}
+
 /// Writes the frame over the first bytes.
 fn fill_front(bytes: &mut [u8], frame: &[u8])
     requires { length frame.now ≤ length bytes.old }
@@ -58,6 +71,7 @@ impl Packet<Raw> {
         ensures layers { result.layers ≡ [] }
     {
         let Buffer { mut block } = buffer;
+        reach(&mut block.bytes, entry.frame.len());
         fill_front(&mut block.bytes, entry.frame);
         block.len = entry.frame.len() as u32;
         block.meta = Meta {
@@ -91,6 +105,7 @@ impl Packet<Raw> {
         ensures layers { result.layers ≡ [] }
     {
         let Buffer { mut block } = buffer;
+        reach(&mut block.bytes, len as usize);
         clear_front(&mut block.bytes, len as usize);
         block.len = len;
         block.meta = Meta {

@@ -5,18 +5,22 @@ ghost use Rattle.store_files.specs.WholeFiles.{Causes};
 
 use std::alloc::{AllocError, Global};
 use store_io::{IoFault, Store};
+use thiserror::Error;
 
 /// How many bytes are asked of the store at once.
 const CHUNK: usize = 65536;
 
 /// Why a file was not read.
-#[derive(Clone, Copy, Debug, PartialEq, Eq)]
+#[derive(Clone, Copy, Debug, PartialEq, Eq, Error)]
 pub enum ReadFault {
     /// It has more bytes than the limit.
+    #[error("the file has more bytes than are read")]
     TooLong,
     /// A call of the store failed.
+    #[error("reading failed")]
     Failed,
     /// Memory ran out.
+    #[error("out of memory")]
     NoMemory,
 }
 

@@ -5,13 +5,16 @@ ghost use Rattle.store_io.specs.declared.traits.IoFault.TheVariants.{NoMemory};
 ghost use Rattle.store_io.specs.Faults.{HasCause, HasCauseAt};
 
 use std::alloc::AllocError;
+use thiserror::Error;
 
 /// Why a call of a store or a sink gave up.
-#[derive(Clone, Copy, Debug, PartialEq, Eq)]
+#[derive(Clone, Copy, Debug, PartialEq, Eq, Error)]
 pub enum IoFault {
     /// Reading or writing failed, and a count of faults rose.
+    #[error("reading or writing failed")]
     Failed,
     /// Memory ran out. What is held and all counts are as before.
+    #[error("out of memory")]
     NoMemory,
 }
 

@@ -8,8 +8,8 @@ use Rattle.flow_key.specs.OpenedView.{opened_view}
 use Rattle.flow_key.proofs.Places.{found_within}
 use Rattle.flow_key.proofs.search.same_key_of.Goals as goal
 
-pub returns-in-Some-clause-within : goal.returns-in-Some-clause-within
-returns-in-Some-clause-within c =
+pub returns-in-None-recent_of-clause-within : goal.returns-in-None-recent_of-clause-within
+returns-in-None-recent_of-clause-within c =
     subst (λ (n : ℕ). IfSome c.copied.result (λ i. i < n)) (length-map c.args.flows.now opened_view)
-    (found_within (spec.has_key (key_view c.key_of.result)) (map opened_view c.args.flows.now) (record { first = None; rank = None; opened = 0 }) c.copied.result
-    (c.copied.ensures ∙ c.get.ensures.value ∙ c.requires.key c.key_of.result))
+    (found_within (spec.has_key (key_view c.key_of-key.result)) (map opened_view c.args.flows.now) (record { first = None; rank = None; opened = 0 }) c.copied.result
+    (c.copied.ensures ∙ c.get.ensures.value ∙ c.requires.key c.key_of-key.result))
