@@ -1,4 +1,8 @@
-mod Faults
+mod FirstFault
+mod Firsts
+mod Ranges
+mod Sorted
+mod Blocks
 mod Choice
 mod Unique
 mod Flows

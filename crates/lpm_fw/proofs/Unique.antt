@@ -73,6 +73,16 @@ at_most rows addr b x y at h leads =
       | inr not_longer ↦ omega arith
     ]
 
+-- two rows that contain one address have prefixes of two lengths
+pub same_twice : (rows : List Route) (addr a b : ℕ) (x y : Route) → AreRight rows → slice_get rows a ≡ Some x → slice_get rows b ≡ Some y
+    → leads_to addr x ≡ true → leads_to addr y ≡ true → y.to.bits ≡ x.to.bits → a < b → ⊥
+same_twice rows addr a b x y right ea eb cx cy bits less =
+    let addr_same = same_address y.to x.to addr (right_row rows b y right eb).0 (right_row rows a x right ea).0 cy cx bits in
+    let same = same_prefix y.to x addr_same bits in
+    let differs = later_differs rows a b x y right ea eb less in
+    let no : true ≡ false = sym same ∙ differs in
+    cc
+
 not_later : (rows : List Route) (addr a b : ℕ) (x y : Route) → AreRight rows → slice_get rows a ≡ Some x → slice_get rows b ≡ Some y
     → is_longest rows addr x ≡ true → is_longest rows addr y ≡ true → a < b → ⊥
 not_later rows addr a b x y right ea eb hx hy less =
@@ -80,12 +90,7 @@ not_later rows addr a b x y right ea eb hx hy less =
     let cy = (and_parts _ _ hy).0 in
     let l1 = at_most rows addr b x y eb hx cy in
     let l2 = at_most rows addr a y x ea hy cx in
-    let bits : y.to.bits ≡ x.to.bits = omega arith in
-    let addr_same = same_address y.to x.to addr (right_row rows b y right eb).0 (right_row rows a x right ea).0 cy cx bits in
-    let same = same_prefix y.to x addr_same bits in
-    let differs = later_differs rows a b x y right ea eb less in
-    let no : true ≡ false = sym same ∙ differs in
-    cc
+    same_twice rows addr a b x y right ea eb cx cy (omega arith) less
 
 pub one_longest : OneLongestPrefix
 one_longest rows addr a b x y right ea eb hx hy =

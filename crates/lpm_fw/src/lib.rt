@@ -1,12 +1,16 @@
 //! Routes by their longest prefix, and the rules of a firewall.
 #![tactic(auto)]
 
+mod cells;
 mod established;
+mod faults;
 mod inspection;
 mod laws;
+mod prefix;
 mod routes;
 mod rules;
 mod sent;
+mod side;
 #[cfg(test)]
 mod tests;
 

@@ -4,11 +4,14 @@ ghost use Rattle.std.specs.Prelude.{◌≡◌, ◌↔◌, IsTrue, ℕ, ◌≤◌
 ghost use Rattle.std.specs.List.{slice_get, position};
 ghost use Rattle.brick_spec.specs.Route as spec;
 ghost use Rattle.lpm_fw.specs.RouteView.{route_view, fault_view};
-ghost use Rattle.lpm_fw.specs.Scan.{AreShort, Best, ScannedFault};
+ghost use Rattle.lpm_fw.specs.Scan.{AreRows, AreShort, Best};
 ghost use Rattle.lpm_fw.specs.declared.routes.RouteFault.TheVariants.{NoMemory};
 
+use crate::cells::{Unbuilt, fill, look_up};
+use crate::faults::check;
 use std::alloc::Global;
 use std::marker::Model;
+use thiserror::Error;
 
 /// A row of a table of routes.
 #[derive(Clone, Copy, Debug, PartialEq, Eq)]
@@ -22,13 +25,16 @@ pub struct Route {
 }
 
 /// Why a table of routes is refused. Rows are numbered from 0.
-#[derive(Clone, Copy, Debug, PartialEq, Eq)]
+#[derive(Clone, Copy, Debug, PartialEq, Eq, Error)]
 pub enum RouteFault {
     /// Two rows have the same prefix. `first` is the earliest such row.
+    #[error("rows {first} and {second} have the same prefix")]
     SamePrefix { first: u32, second: u32 },
     /// The address of a row has bits past its prefix.
+    #[error("the address of row {row} has bits past its prefix")]
     HostBits { row: u32 },
     /// Memory ran out.
+    #[error("out of memory")]
     NoMemory,
 }
 
@@ -36,34 +42,35 @@ pub enum RouteFault {
 #[derive(Drop)]
 pub struct Routes {
     rows: Vec<Route>,
+    // the cells of a table of many rows
+    root: Vec<u16>,
+    blocks: Vec<[u16; 256]>,
 }
 
 impl Model for Routes {
     ghost use Rattle.std.specs.Prelude.{List};
     ghost use Rattle.lpm_fw.specs.declared.routes.Route.{Route};
-    ghost use Rattle.lpm_fw.specs.Scan.{AreRows};
+    ghost use Rattle.lpm_fw.specs.Cells.{IsTable};
 
     ghost Value = { List Route };
 
     ghost view = { λ r. r.rows.items };
 
-    ghost invariant = { λ r. AreRows r.rows.items };
+    ghost invariant = { λ r. IsTable r.rows.items r.root.items r.blocks.items };
 }
 
 impl Routes {
     /// The table of these rows, or the first fault: rows are tried in their order, each for bits past its prefix and then for the
     /// earliest row of the same prefix.
-    pub fn build(_alloc: Global, rows: Vec<Route>) -> Result<Routes, RouteFault>
+    pub fn build(alloc: Global, rows: Vec<Route>) -> Result<Routes, RouteFault>
         requires few { length rows.items ≤ 4096 }
         requires short { AreShort rows.items }
         ensures ok { IfOk result (λ routes. routes ≡ rows.items) }
         ensures right { OnOk result (spec.AreRight (map route_view rows.items)) }
         ensures fault { IfErr result (λ fault. fault ≢ NoMemory → IfSome (fault_view fault) (spec.IsFirstFault (map route_view rows.items))) }
     {
-        match first_fault(&rows) {
-            Some(fault) => Err(fault),
-            None => Ok(Routes { rows }),
-        }
+        check(alloc, &rows)?;
+        with_cells(alloc, rows)
     }
 
     /// The row of the longest prefix that contains the address: none exactly where no prefix does.
@@ -71,7 +78,11 @@ impl Routes {
         ensures route { result ≡ spec.route_of (map route_view self.now) addr }
         ensures there { IfSome result (λ row. row < length self.now) }
     {
-        find_in(&self.rows, addr)
+        if self.root.is_empty() {
+            find_in(&self.rows, addr)
+        } else {
+            look_up(&self.rows, &self.root, &self.blocks, addr)
+        }
     }
 
     /// The Ethernet address to which a row leads.
@@ -84,6 +95,27 @@ impl Routes {
 }
 
 ghost use Rattle.lpm_fw.specs.declared.routes.Route.{Route};
+
+/// How many rows a table with cells has at least.
+const MANY: usize = 64;
+
+/// The table of these rows, with cells where they are many.
+fn with_cells(alloc: Global, rows: Vec<Route>) -> Result<Routes, RouteFault>
+    requires { AreRows rows.items }
+    ensures ok { IfOk result (λ routes. routes ≡ rows.items) }
+    ensures fault { IfErr result (λ fault. fault ≡ NoMemory) }
+{
+    let mut root = Vec::new(alloc);
+    let mut blocks = Vec::new(alloc);
+    if rows.len() >= MANY {
+        match fill(alloc, &rows, &mut root, &mut blocks) {
+            Ok(()) => {}
+            Err(Unbuilt::NoMemory) => return Err(RouteFault::NoMemory),
+            Err(Unbuilt::Blocks) => root = Vec::new(alloc),
+        }
+    }
+    Ok(Routes { rows, root, blocks })
+}
 
 /// Whether no row looks at more than 32 bits of an address, as `Routes::build` asks.
 pub fn are_short(rows: &[Route]) -> bool
@@ -106,65 +138,8 @@ fn leads_to(row: Route, addr: u32) -> bool
     addr as u64 >> free == row.to as u64 >> free
 }
 
-/// Whether the row's address has bits past its prefix.
-fn has_host_bits(row: Route) -> bool
-    requires { row.bits ≤ 32 }
-    ensures { result ≡ spec.has_host_bits (route_view row).to }
-{
-    let free = 32 - row.bits as u32;
-    0 < row.to as u64 % (1u64 << free)
-}
-
-/// Whether two rows have the same prefix.
-fn is_same_prefix(row: Route, other: Route) -> bool
-    ensures { result ≡ spec.is_same_prefix (route_view row).to (route_view other) }
-{
-    row.to == other.to && row.bits == other.bits
-}
-
-/// The first of the rows with the prefix of another.
-fn first_same(before: &[Route], row: Route) -> Option<usize>
-    ensures place { result ≡ position (λ other. spec.is_same_prefix (route_view row).to (route_view other)) before.now }
-    ensures within { IfSome result (λ k. k < length before.now) }
-{
-    before.iter().position(|other| is_same_prefix(row, *other))
-}
-
-/// What is wrong with row `r` behind these rows.
-fn fault_at(before: &[Route], row: Route, r: u32) -> Option<RouteFault>
-    requires few { length before.now < 2 ^ 32 }
-    requires short { row.bits ≤ 32 }
-    ensures { ScannedFault before.now row r result }
-{
-    if has_host_bits(row) {
-        return Some(RouteFault::HostBits { row: r });
-    }
-    match first_same(before, row) {
-        Some(first) => Some(RouteFault::SamePrefix {
-            first: first as u32,
-            second: r,
-        }),
-        None => None,
-    }
-}
-
-/// The first fault in the order of the rows.
-fn first_fault(rows: &[Route]) -> Option<RouteFault>
-    requires few { length rows.now ≤ 4096 }
-    requires short { AreShort rows.now }
-    ensures { MatchOption result (spec.AreRight (map route_view rows.now)) (λ fault. IfSome (fault_view fault) (spec.IsFirstFault (map route_view rows.now))) }
-{
-    for r in 0..rows.len() {
-        let found = fault_at(&rows[..r], rows[r], r as u32);
-        if found.is_some() {
-            return found;
-        }
-    }
-    None
-}
-
 /// The row of the longest prefix that contains the address.
-fn find_in(rows: &[Route], addr: u32) -> Option<u16>
+pub(crate) fn find_in(rows: &[Route], addr: u32) -> Option<u16>
     requires few { length rows.now ≤ 4096 }
     requires short { AreShort rows.now }
     ensures route { result ≡ spec.route_of (map route_view rows.now) addr }

@@ -1,8 +1,10 @@
 ghost use Rattle.std.specs.Prelude.{◌≡◌};
 
+use crate::routes::find_in;
 use crate::{Established, Route, RouteFault, Routes, Rule, Rules, Verdict, are_short, inspect};
 use brick_base::{Class, Dir, Ends};
 use std::alloc::Global;
+use std::collections::BTreeSet;
 use std::process::Abort;
 use std::test::Fail;
 use tcp_udp::{Match, Tuple};
@@ -38,28 +40,46 @@ fn built(rt: &impl Abort, alloc: Global, rows: Vec<Route>) -> Result<Routes, Rou
     Routes::build(alloc, rows)
 }
 
+/// Addresses, and the row of the longest of the four prefixes that contains each.
+const WANTED: [(u32, u16); 11] = [
+    (0x09ffffff, 0),
+    (0x0a000000, 1),
+    (0x0a00ffff, 1),
+    (0x0a010000, 2),
+    (0x0a010202, 2),
+    (0x0a010203, 3),
+    (0x0a010204, 2),
+    (0x0a01ffff, 2),
+    (0x0a020000, 1),
+    (0x0affffff, 1),
+    (0x0b000000, 0),
+];
+
 #[test]
 fn the_longest_prefix_is_found(rt: HostRuntime) -> Result<(), Fail> {
     let routes = built(&rt, rt.alloc(), rows_from(rt.alloc(), 0)?)?;
-    let wanted = [
-        (0x09ffffff, 0),
-        (0x0a000000, 1),
-        (0x0a00ffff, 1),
-        (0x0a010000, 2),
-        (0x0a010202, 2),
-        (0x0a010203, 3),
-        (0x0a010204, 2),
-        (0x0a01ffff, 2),
-        (0x0a020000, 1),
-        (0x0affffff, 1),
-        (0x0b000000, 0),
-    ];
-    for (addr, row) in wanted {
+    for (addr, row) in WANTED {
         assert_eq!(rt; routes.find(addr), Some(row), "{addr:x}");
     }
     // without the row for all addresses
     let routes = built(&rt, rt.alloc(), rows_from(rt.alloc(), 1)?)?;
     assert_eq!(rt; routes.find(0x0b000000), None);
+    Ok(())
+}
+
+#[test]
+fn the_longest_prefix_is_found_among_64_rows(rt: HostRuntime) -> Result<(), Fail> {
+    // 172.16.0.0/24 to 172.16.59.0/24 behind the four
+    let mut rows = rows_from(rt.alloc(), 0)?;
+    for third in 0..60u32 {
+        rows.push(row(0xac100000 + third * 256, 24, 9))?;
+    }
+    let routes = built(&rt, rt.alloc(), rows)?;
+    for (addr, row) in WANTED {
+        assert_eq!(rt; routes.find(addr), Some(row), "{addr:x}");
+    }
+    assert_eq!(rt; routes.find(0xac103b07), Some(63));
+    assert_eq!(rt; routes.find(0xac103c00), Some(0));
     Ok(())
 }
 
@@ -91,6 +111,53 @@ fn a_table_has_4096_rows(rt: HostRuntime) -> Result<(), Fail> {
     let routes = built(&rt, rt.alloc(), rows)?;
     assert_eq!(rt; routes.find(0x0a0fffff), Some(4095));
     assert_eq!(rt; routes.find(0x0a100000), None);
+    Ok(())
+}
+
+/// The next number of a fixed sequence.
+fn next(state: u64) -> u64 {
+    state
+        .wrapping_mul(6364136223846793005)
+        .wrapping_add(1442695040888963407)
+}
+
+/// 4,096 rows of random prefixes of 8 to 32 bits, none twice.
+fn random_rows(alloc: Global) -> Result<Vec<Route>, Fail> {
+    let mut rows = Vec::new(alloc);
+    let mut prefixes = BTreeSet::new(alloc);
+    let mut state = 1;
+    for _ in 0..8192 {
+        state = next(state);
+        let bits = 8 + (state >> 33) % 25;
+        // the high byte is one of four, so that prefixes lie in one another
+        let addr = (state >> 40) % (1 << 24) + ((state >> 35) % 4 << 24);
+        let to = addr >> (32 - bits) << (32 - bits);
+        if rows.len() < 4096 && prefixes.insert(to * 64 + bits)? {
+            rows.push(row(to as u32, bits as u8, 0))?;
+        }
+    }
+    Ok(rows)
+}
+
+#[test]
+fn the_cells_say_what_a_scan_of_the_rows_says(rt: HostRuntime) -> Result<(), Fail> {
+    let rows = random_rows(rt.alloc())?;
+    let wanted = random_rows(rt.alloc())?;
+    assert_eq!(rt; rows.len(), 4096);
+    let routes = built(&rt, rt.alloc(), rows)?;
+    assert!(rt; wanted.len() <= 4096);
+    assert!(rt; are_short(&wanted));
+    let mut state = 2;
+    let (mut some, mut none) = (false, false);
+    for _ in 0..5000 {
+        state = next(state);
+        let addr = ((state >> 33) % (5 << 24)) as u32;
+        let row = routes.find(addr);
+        assert_eq!(rt; row, find_in(&wanted, addr), "{addr:x}");
+        some |= row.is_some();
+        none |= row.is_none();
+    }
+    assert!(rt; some && none);
     Ok(())
 }
 

@@ -35,41 +35,29 @@ first_fault_is rows r row fault f at right view here = record {
   before = λ k other less at_k. right_mapped rows k other at_k (λ row at_row. right k row less at_row);
 }
 
--- a row that is scanned with a fault
-fault_found : (rows : List Route) (r : ℕ) (row : Route) (fault : RouteFault) → slice_get rows r ≡ Some row → RightBefore rows r
-    → spec.fault_at (map route_view (take r rows)) (route_view row) r ≡ fault_view fault → IfSome (fault_view fault) (spec.IsFirstFault (map route_view rows))
-fault_found rows r row fault at right here = go (fault_view fault) refl
+-- a row with a fault, unless memory ran out
+pub fault_found : (rows : List Route) (r : ℕ) (row : Route) (fault : RouteFault) → slice_get rows r ≡ Some row → RightBefore rows r
+    → IfSome (fault_view fault) (λ f. spec.fault_at (map route_view (take r rows)) (route_view row) r ≡ Some f) → IfSome (fault_view fault) (spec.IsFirstFault (map route_view rows))
+fault_found rows r row fault at right = go (fault_view fault) refl
   where
-    go : (o : Option spec.RouteFault) → fault_view fault ≡ o → IfSome o (spec.IsFirstFault (map route_view rows))
-    go None e = tt
-    go (Some f) e = first_fault_is rows r row fault f at right e here
+    go : (o : Option spec.RouteFault) → fault_view fault ≡ o → IfSome o (λ f. spec.fault_at (map route_view (take r rows)) (route_view row) r ≡ Some f) → IfSome o (spec.IsFirstFault (map route_view rows))
+    go None e here = tt
+    go (Some f) e here = first_fault_is rows r row fault f at right e (here ∙ sym e)
 
--- a row at which the scan stops
-pub scan_stops : (rows : List Route) (r : ℕ) (row : Route) (found : Option RouteFault) → slice_get rows r ≡ Some row → RightBefore rows r
-    → ScannedFault (take r rows) row r found → is_some found ≡ true
-    → MatchOption found (spec.AreRight (map route_view rows)) (λ fault. IfSome (fault_view fault) (spec.IsFirstFault (map route_view rows)))
-scan_stops rows r row None at right here some = absurd (cc)
-scan_stops rows r row (Some fault) at right here some = fault_found rows r row fault at right here
-
--- a row at which it goes on
-pub scan_goes_on : (rows : List Route) (r : ℕ) (row : Route) (found : Option RouteFault) → slice_get rows r ≡ Some row → RightBefore rows r
-    → ScannedFault (take r rows) row r found → is_some found ≡ false → RightBefore rows (r + 1)
-scan_goes_on rows r row (Some fault) at right here some = absurd (cc)
-scan_goes_on rows r row None at right here some = right_more rows r row at right here
-  where
-    right_more : (rows : List Route) (r : ℕ) (row : Route) → slice_get rows r ≡ Some row → RightBefore rows r
-        → spec.fault_at (map route_view (take r rows)) (route_view row) r ≡ None → RightBefore rows (r + 1)
-    right_more rows r row at right none k other less at_k =
-        elim (cases_lt k r) [
-          | inl before ↦ right k other before at_k
-          | inr past ↦
-              let e : r ≡ k = omega arith in
-              let at_r : slice_get rows r ≡ Some other = ap (slice_get rows) e ∙ at_k in
-              let both : Some row ≡ Some other = sym at ∙ at_r in
-              let same : row ≡ other = cc in
-              subst (λ (n : ℕ). spec.fault_at (map route_view (take n rows)) (route_view other) n ≡ None) e
-              (subst (λ (x : Route). spec.fault_at (map route_view (take r rows)) (route_view x) r ≡ None) same none)
-        ]
+-- a row without one
+pub right_more : (rows : List Route) (r : ℕ) (row : Route) → slice_get rows r ≡ Some row → RightBefore rows r
+    → spec.fault_at (map route_view (take r rows)) (route_view row) r ≡ None → RightBefore rows (r + 1)
+right_more rows r row at right none k other less at_k =
+    elim (cases_lt k r) [
+      | inl before ↦ right k other before at_k
+      | inr past ↦
+          let e : r ≡ k = omega arith in
+          let at_r : slice_get rows r ≡ Some other = ap (slice_get rows) e ∙ at_k in
+          let both : Some row ≡ Some other = sym at ∙ at_r in
+          let same : row ≡ other = cc in
+          subst (λ (n : ℕ). spec.fault_at (map route_view (take n rows)) (route_view other) n ≡ None) e
+          (subst (λ (x : Route). spec.fault_at (map route_view (take r rows)) (route_view x) r ≡ None) same none)
+    ]
 
 -- the whole table
 pub all_right : (rows : List Route) (r : ℕ) → RightBefore rows r → length rows ≤ r → spec.AreRight (map route_view rows)

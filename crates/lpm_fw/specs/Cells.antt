@@ -1,0 +1,89 @@
+-- A table of cells over the ranges of addresses.
+use Rattle.std.specs.Prelude.{ℕ, ◌≡◌, ◌<◌, ◌≤◌, ◌+◌, ◌-◌, ◌*◌, ◌/◌, ◌^◌, false, true, zero, suc, nat_lt, MatchBool, Option, Some, None, List, length, MatchOption, ◌⊎◌, ◌==◌}
+use Rattle.std.specs.List.{slice_get, slice_index}
+use Rattle.brick_spec.specs.Route as spec
+use Rattle.lpm_fw.specs.declared.routes.Route.{Route}
+use Rattle.lpm_fw.specs.Scan.{AreRows}
+use Rattle.lpm_fw.specs.RouteView.{route_view}
+use Rattle.lpm_fw.specs.declared.side.Side.{Side}
+use Rattle.lpm_fw.specs.declared.side.Side.TheVariants.{Inside, Around, Apart}
+
+-- row r is the longest of those that contain the address
+pub record IsLongest (rows : List Route) (addr r : ℕ) : Type 0 where
+  pub row : Route
+  pub there : slice_get rows r ≡ Some row
+  pub here : spec.leads_to addr (route_view row) ≡ true
+  pub longest : (k : ℕ) (other : Route) → slice_get rows k ≡ Some other → spec.leads_to addr (route_view other) ≡ true → other.bits ≤ row.bits
+
+abbrev pub Finds : List Route → ℕ → Option ℕ → Type 0
+Finds rows addr None = (k : ℕ) (other : Route) → slice_get rows k ≡ Some other → spec.leads_to addr (route_view other) ≡ false
+Finds rows addr (Some r) = IsLongest rows addr r
+
+abbrev pub row_of : ℕ → Option ℕ
+row_of zero = None
+row_of (suc r) = Some r
+
+-- The cell of the range a of 2 ^ w addresses has the row of the longest prefix that contains each of them: so none that is
+-- smaller than the range lies inside.
+pub record IsRowCell (rows : List Route) (w a cell : ℕ) : Type 0 where
+  pub found : (addr : ℕ) → addr / 2 ^ w ≡ a → Finds rows addr (row_of cell)
+
+-- Such a cell; or, of a range of 256 or more addresses, a block, of which the 256 cells divide the range in order.
+abbrev pub IsCell : List Route → List (List ℕ) → ℕ → ℕ → ℕ → Type 0
+IsCell rows blocks zero a cell = IsRowCell rows 0 a cell
+IsCell rows blocks (suc level) a cell = MatchBool (nat_lt cell 4097) (IsRowCell rows (8 * suc level) a cell)
+    ((block : List ℕ) × (slice_get blocks (cell - 4097) ≡ Some block) × ((i : ℕ) → i < 256 → IsCell rows blocks level (a * 256 + i) (slice_index block i)))
+
+-- the cells of the first n ranges of 65,536 addresses; a table has all 65,536 of them
+pub record AreCells (rows : List Route) (root : List ℕ) (blocks : List (List ℕ)) (n : ℕ) : Type 0 where
+  pub long : length root ≡ n
+  pub each : (a : ℕ) → a < n → IsCell rows blocks 2 a (slice_index root a)
+
+-- what is true of each table: where there are cells, they are those of the rows
+pub record IsTable (rows : List Route) (root : List ℕ) (blocks : List (List ℕ)) : Type 0 where
+  pub are : AreRows rows
+  pub cells : (length root == 0) ≡ false → AreCells rows root blocks 65536
+
+-- BUILDING
+
+-- a row leads to each address of the range a of 2 ^ w addresses
+abbrev pub LeadsToAll : ℕ → ℕ → Route → Type 0
+LeadsToAll w a row = (addr : ℕ) → addr / 2 ^ w ≡ a → spec.leads_to addr (route_view row) ≡ true
+
+-- and to none of them
+abbrev pub LeadsToNone : ℕ → ℕ → Route → Type 0
+LeadsToNone w a row = (addr : ℕ) → addr / 2 ^ w ≡ a → spec.leads_to addr (route_view row) ≡ false
+
+-- the best row, where there is one, leads to each address of the range
+abbrev pub BestLeads : List Route → ℕ → ℕ → Option ℕ → Type 0
+BestLeads rows w a None = Unit {0}
+BestLeads rows w a (Some r) = (row : Route) × (slice_get rows r ≡ Some row) × LeadsToAll w a row
+
+-- and it has so many bits at least
+abbrev pub IsAsLong : List Route → ℕ → Option ℕ → Type 0
+IsAsLong rows bits None = ⊥
+IsAsLong rows bits (Some r) = (row : Route) × (slice_get rows r ≡ Some row) × (bits ≤ row.bits)
+
+abbrev pub IsAmong : ℕ → List ℕ → ℕ → Type 0
+IsAmong k list from = (j : ℕ) × (from ≤ j) × (slice_get list j ≡ Some k)
+
+-- Each row that leads to an address of the range is among some rows from a place on, or among those inside, or no longer than the best.
+pub record AreSorted (rows : List Route) (w a : ℕ) (list : List ℕ) (from : ℕ) (inside : List ℕ) (best : Option ℕ) : Type 0 where
+  pub leads : BestLeads rows w a best
+  pub within : (j k : ℕ) → slice_get inside j ≡ Some k → k < length rows
+  pub all : (addr k : ℕ) (other : Route) → addr / 2 ^ w ≡ a → slice_get rows k ≡ Some other → spec.leads_to addr (route_view other) ≡ true
+      → IsAmong k list from ⊎ (IsAmong k inside 0 ⊎ IsAsLong rows other.bits best)
+
+-- where a prefix lies, seen from a range
+abbrev pub IsSideOf : Route → ℕ → ℕ → Side → Type 0
+IsSideOf row w a Inside = 0 < w
+IsSideOf row w a Around = LeadsToAll w a row
+IsSideOf row w a Apart = LeadsToNone w a row
+
+-- some blocks and more behind them
+abbrev pub AreMore : List (List ℕ) → List (List ℕ) → Type 0
+AreMore old new = (k : ℕ) (block : List ℕ) → slice_get old k ≡ Some block → slice_get new k ≡ Some block
+
+-- the first n cells of the block of a range
+abbrev pub AreParts : List Route → List (List ℕ) → ℕ → ℕ → List ℕ → ℕ → Type 0
+AreParts rows blocks level a block n = (i : ℕ) → i < n → IsCell rows blocks level (a * 256 + i) (slice_index block i)
