@@ -170,7 +170,7 @@ kind_among (k ∷ ks) t = if bytes_eq t k.0 then Some k.1 else kind_among ks t
 -- the stages that a file may name
 abbrev pub kinds : List (Text × Kind)
 kinds = (codes "ttl", TtlKind) ∷ (codes "set_tos", SetTosKind) ∷ (codes "only", OnlyKind) ∷ (codes "firewall", FirewallKind) ∷ (codes "route", RouteKind)
-    ∷ (codes "nat", NatKind) ∷ (codes "balance", BalanceKind) ∷ (codes "window", WindowKind) ∷ []
+    ∷ (codes "nat", NatKind) ∷ (codes "balance", BalanceKind) ∷ (codes "window", WindowKind) ∷ (codes "scan", ScanKind) ∷ []
 
 abbrev pub kind_of : Text → Option Kind
 kind_of t = kind_among kinds t

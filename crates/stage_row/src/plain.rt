@@ -4,6 +4,7 @@ use flow_stages::{BalanceStage, FirewallStage, NatStage, RouteStage};
 use map_filter::{OnlyStage, ParsedStage, TosStage, TtlStage};
 use packet_owner::Packet;
 use read_row::{ReadPacket, ReadRow, TreatRead, treat_packet};
+use scan_stage::ScanStage;
 
 /// A stage that is chosen when the program runs, and makes at most one packet of a packet.
 #[derive(Drop)]
@@ -24,6 +25,8 @@ pub enum PlainStage {
     Nat(NatStage),
     /// Sends each flow to a backend.
     Balance(BalanceStage),
+    /// Stops a flow whose streams contain a text.
+    Scan(ScanStage),
 }
 
 /// Stages in a row: what one passes comes to the next, at once. A packet's headers are read once.
@@ -44,6 +47,7 @@ impl TreatRead for PlainStage {
             PlainStage::Route(stage) => stage.treat_read(class, packet),
             PlainStage::Nat(stage) => stage.treat_read(class, packet),
             PlainStage::Balance(stage) => stage.treat_read(class, packet),
+            PlainStage::Scan(stage) => stage.treat_read(class, packet),
         }
     }
 
@@ -57,6 +61,7 @@ impl TreatRead for PlainStage {
             PlainStage::Route(stage) => stage.treat_other(class, packet),
             PlainStage::Nat(stage) => stage.treat_other(class, packet),
             PlainStage::Balance(stage) => stage.treat_other(class, packet),
+            PlainStage::Scan(stage) => stage.treat_other(class, packet),
         }
     }
 

@@ -12,3 +12,4 @@ kind_view kind.Route = walk.RouteKind
 kind_view kind.Nat = walk.NatKind
 kind_view kind.Balance = walk.BalanceKind
 kind_view kind.Window = walk.WindowKind
+kind_view kind.Scan = walk.ScanKind

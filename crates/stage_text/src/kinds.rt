@@ -22,6 +22,7 @@ pub(crate) enum Kind {
     Nat,
     Balance,
     Window,
+    Scan,
 }
 
 fn kind_of(text: &str) -> Option<Kind>
@@ -36,6 +37,7 @@ fn kind_of(text: &str) -> Option<Kind>
         "nat" => Some(Kind::Nat),
         "balance" => Some(Kind::Balance),
         "window" => Some(Kind::Window),
+        "scan" => Some(Kind::Scan),
         _ => None,
     }
 }
@@ -93,6 +95,10 @@ pub(crate) fn known_in(
         }
         Kind::Window => {
             let row = ["stage", "size", "reach"];
+            known(alloc, place, row.as_slice(), table)
+        }
+        Kind::Scan => {
+            let row = ["stage", "find", "reach"];
             known(alloc, place, row.as_slice(), table)
         }
     }

@@ -17,8 +17,8 @@ use crate::matches::match_in;
 use crate::routes::routes_in;
 use crate::rules::{rules_at, verdict_in};
 use chain_text::{
-    ChainFault, array_in, mac_in, number_in, number_or, required, table_in, truth_or_false,
-    value_at,
+    ChainFault, array_in, bytes_in, mac_in, number_in, number_or, required, table_in,
+    truth_or_false, value_at,
 };
 use chain_types::Stage;
 use std::alloc::Global;
@@ -107,6 +107,18 @@ fn window(alloc: Global, place: u32, table: &Table) -> Result<Stage, ChainFault>
     Ok(Stage::Window { size, reach })
 }
 
+#[tactic(auto, unfolding(chain_spec::specs::StageWalk::scan_values))]
+fn scan(alloc: Global, place: u32, table: &Table) -> Result<Stage, ChainFault>
+    ensures value { Gives stage_view result (spec.scan_values place (table_view table.now)) }
+    ensures right { IfOk result (λ s. IsTrue (is_stage_right (stage_view s))) }
+{
+    let find = required(alloc, place, "find", table)?;
+    let find = bytes_in(alloc, 1, 64, place, "find", find)?;
+    let reach = reach_at(alloc, place, table)?;
+    let text = find.as_bytes().to_vec(alloc)?;
+    Ok(Stage::Scan { text, reach })
+}
+
 /// The stage of this kind with the values of its keys.
 #[tactic(auto, unfolding(chain_spec::specs::StageWalk::stage_values))]
 fn stage_values(alloc: Global, place: u32, kind: Kind, table: &Table) -> Result<Stage, ChainFault>
@@ -122,6 +134,7 @@ fn stage_values(alloc: Global, place: u32, kind: Kind, table: &Table) -> Result<
         Kind::Nat => Ok(Stage::Nat),
         Kind::Balance => balance(alloc, place, table),
         Kind::Window => window(alloc, place, table),
+        Kind::Scan => scan(alloc, place, table),
     }
 }
 

@@ -1,5 +1,5 @@
 use Rattle.std.proofs.Common.{refl}
-use Rattle.stage_row.specs.declared.plain.PlainStage.TheVariants.{Parsed, Ttl, Tos, Only, Firewall, Route, Nat, Balance}
+use Rattle.stage_row.specs.declared.plain.PlainStage.TheVariants.{Parsed, Ttl, Tos, Only, Firewall, Route, Nat, Balance, Scan}
 use Rattle.stage_row.specs.Plain.{plain_kind}
 use Rattle.stage_row.proofs.Variants.{treats_as}
 use Rattle.stage_row.proofs.plain.PlainStageTreatRead.treat_other.Goals as goal
@@ -35,3 +35,7 @@ returns-in-Nat c =
 pub returns-in-Balance : goal.returns-in-Balance
 returns-in-Balance c =
     treats_as _ plain_kind (λ s. Balance s) (record { stage = λ s. refl; fits = λ s flow items h. h; fitted = λ s flow items h. h; failed = λ s. refl }) c.args.self.now c.in-Balance.stage c.treat_other-in-Balance.new.self c.args.class.now c.args.packet.now _ c.in-Balance.is c.treat_other-in-Balance.ensures
+
+pub returns-in-Scan : goal.returns-in-Scan
+returns-in-Scan c =
+    treats_as _ plain_kind (λ s. Scan s) (record { stage = λ s. refl; fits = λ s flow items h. h; fitted = λ s flow items h. h; failed = λ s. refl }) c.args.self.now c.in-Scan.stage c.treat_other-in-Scan.new.self c.args.class.now c.args.packet.now _ c.in-Scan.is c.treat_other-in-Scan.ensures

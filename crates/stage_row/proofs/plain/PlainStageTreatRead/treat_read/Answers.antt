@@ -1,5 +1,5 @@
 use Rattle.std.proofs.Common.{refl}
-use Rattle.stage_row.specs.declared.plain.PlainStage.TheVariants.{Parsed, Ttl, Tos, Only, Firewall, Route, Nat, Balance}
+use Rattle.stage_row.specs.declared.plain.PlainStage.TheVariants.{Parsed, Ttl, Tos, Only, Firewall, Route, Nat, Balance, Scan}
 use Rattle.stage_row.specs.Plain.{plain_kind}
 use Rattle.stage_row.proofs.Variants.{treats_as}
 use Rattle.stage_row.proofs.plain.PlainStageTreatRead.treat_read.Goals as goal
@@ -35,3 +35,7 @@ returns-in-Nat-clause-treats c =
 pub returns-in-Balance-clause-treats : goal.returns-in-Balance-clause-treats
 returns-in-Balance-clause-treats c =
     treats_as _ plain_kind (λ s. Balance s) (record { stage = λ s. refl; fits = λ s flow items h. h; fitted = λ s flow items h. h; failed = λ s. refl }) c.args.self.now c.in-Balance.stage c.treat_read-in-Balance.new.self c.args.class.now c.args.packet.now.packet _ c.in-Balance.is c.treat_read-in-Balance.ensures.treats
+
+pub returns-in-Scan-clause-treats : goal.returns-in-Scan-clause-treats
+returns-in-Scan-clause-treats c =
+    treats_as _ plain_kind (λ s. Scan s) (record { stage = λ s. refl; fits = λ s flow items h. h; fitted = λ s flow items h. h; failed = λ s. refl }) c.args.self.now c.in-Scan.stage c.treat_read-in-Scan.new.self c.args.class.now c.args.packet.now.packet _ c.in-Scan.is c.treat_read-in-Scan.ensures.treats

@@ -1,0 +1,3 @@
+mod MapSteps
+mod Segments
+mod Treating

@@ -1,0 +1,6 @@
+mod Occurrences
+mod Finding
+mod Lasts
+mod Runs
+mod Grown
+mod Scanning

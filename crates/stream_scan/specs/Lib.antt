@@ -1,0 +1,3 @@
+pub mod LastBytes
+pub mod Searched
+pub mod ScanModel
