@@ -15,3 +15,5 @@ mod Rising
 mod Lists
 mod Keys
 mod Counts
+pub mod Sets
+pub mod Files

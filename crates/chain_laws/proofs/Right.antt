@@ -18,10 +18,10 @@ use Rattle.chain_spec.specs.ChainSet as chains
 use Rattle.chain_spec.specs.ChainSet.{Stage, Leaf, Below, Output, Inner, Group, Chain, NamedLeaf, NamedBelow, Into, Within, NamedGroup, Settings, is_among, are_distinct, outputs_of, place_of, leaf_with, below_with, group_with, chain_of, is_between, are_rising, are_backends_right, is_stage_right, are_stages_right, is_below_right, is_named_below_right, has_plan_for_nat, has_one_window, IsChainRight}
 use Rattle.chain_spec.specs.Fields.{each_after, required, text_in, table_in, array_in, within, natural, number_from, number_in, number_or, written_in, known, word_from, truth_or_false, bytes_in, name_in}
 use Rattle.chain_spec.specs.StageWalk.{Kind, TtlKind, SetTosKind, OnlyKind, FirewallKind, RouteKind, NatKind, BalanceKind, WindowKind, ScanKind, kind_of, stage_row, stage_values, stage_at, stages_at, match_in, match_at, verdict_of, rule_at, rules_at, reach_at, set_tos_values, only_values, firewall_values, route_at, sound_rows, routes_in, route_stage_values, backend_row, backend_values, backend_at, backends_in, epoch_row, last_begin, epoch_values, epoch_at, epochs_at, balance_values, window_values, scan_values}
-use Rattle.chain_spec.specs.ChainWalk.{any_name_in, into_or, leaf_row, leaf_values, leaf_at, leaves_in, group_row, below_at, group_values, group_at, most_groups, groups_in, capture_in, dry_or_wait, unparsed_or_pass, settings_in, nat_at, tenant_row, tenant_name, tenant_capture, tenant_groups, tenant_stages, tenant_values, tenant_at}
+use Rattle.chain_spec.specs.ChainWalk.{any_name_in, into_or, leaf_row, leaf_values, leaf_at, leaves_in, group_row, below_at, group_values, group_at, most_groups, groups_in, capture_in, dry_or_wait, unparsed_or_pass, settings_in, nat_at, tenant_row, tenant_name, tenant_capture, tenant_groups, tenant_stages, tenant_values, tenant_at, read_chains}
 use Rattle.chain_laws.specs.Accepted.{all_stages}
 use Rattle.chain_laws.specs.Right.{IsLeafRight, AreLeavesRight, IsGroupRight, HasMacs, IsRight, AcceptedIsRight}
-use Rattle.chain_laws.proofs.Walk.{Read, ok_then, same_ok, fits_same, fits_fit, accepted_is}
+use Rattle.chain_laws.proofs.Walk.{Read, ok_then, same_ok, fits_same, fits_fit, accepted_is, read_are}
 use Rattle.chain_laws.proofs.Sizes.{if_ok, array_is, tenant_sized, all_macs}
 
 -- NUMBERS
@@ -451,3 +451,7 @@ tenant_right version before d c e =
 
 pub accepted_right : AcceptedIsRight
 accepted_right chain h = accepted_is IsRight tenant_right chain h
+
+-- the same of all chains of the set
+pub set_right : (own out bytes : List ℕ) (set : List Chain) → read_chains own out bytes ≡ Ok set → AllByRecursion IsRight set
+set_right own out bytes set e = read_are IsRight tenant_right own out bytes set e

@@ -55,7 +55,7 @@ tenant_fits version before d c e =
     let h = ok_then (tenant_groups version place a.0) _ c g.2 in
     fits_fit place (chain_of n.0 p.0 s.0 t.0 g.0 h.0) c h.2
 
-past : (b c : Bool) (f g : ChainFault) (r : Read (List Chain)) (y : List Chain) → cond b (Err f) (cond c (Err g) r) ≡ Ok y → r ≡ Ok y
+pub past : (b c : Bool) (f g : ChainFault) (r : Read (List Chain)) (y : List Chain) → cond b (Err f) (cond c (Err g) r) ≡ Ok y → r ≡ Ok y
 past true c f g r y e = cc
 past false true f g r y e = cc
 past false false f g r y e = e
@@ -89,7 +89,7 @@ module _ (P : Chain → Type 0) (one : (version : ℕ) (before : List Chain) (d 
       let r = ok_then (required 0 (codes "tenant") ms) _ chains v.2 in
       tenants_are v.0 r.0 chains r.2
 
-  read_are : (own out bytes : List ℕ) (chains : List Chain) → read_chains own out bytes ≡ Ok chains → AllByRecursion P chains
+  pub read_are : (own out bytes : List ℕ) (chains : List Chain) → read_chains own out bytes ≡ Ok chains → AllByRecursion P chains
   unfolding read_chains
   read_are own out bytes chains e =
       let a = ok_then (tree bytes) (λ ms. top ms >>= λ cs. apart own out cs >>= λ _. Ok cs) chains e in

@@ -1,4 +1,5 @@
 pub mod Accepted
+pub mod Files
 pub mod Keys
 pub mod Counts
 pub mod SharedRest

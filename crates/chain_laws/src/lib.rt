@@ -2,6 +2,7 @@
 //! of what a chain leaves of a capture.
 #![tactic(auto)]
 
+ghost use Rattle.chain_laws.specs.Files.{FilesAreDistinct};
 ghost use Rattle.chain_laws.specs.Counts.{LeavesNoMore, CountsAreSmall};
 ghost use Rattle.chain_laws.specs.Right.{AcceptedIsRight};
 ghost use Rattle.chain_laws.specs.Keys.{KeysAreDistinct, AnswersAreDistinct, RecordsStandOnce, KeysStandOnce};
@@ -11,6 +12,12 @@ ghost use Rattle.chain_laws.specs.SharedRest.{RestsMayShare};
 /// and the facts that join its parts. So the code may rely on it.
 pub fn accepted_chains_are_right()
     ensures { AcceptedIsRight }
+{}
+
+/// A law: the files of a run on an accepted chain file have names of their own: no two are the same, whether of one
+/// tenant or of two, none is the chain file, and none is a tenant's capture.
+pub fn files_are_distinct()
+    ensures { FilesAreDistinct }
 {}
 
 /// A law: whatever records are refused, no two items of a leaf group's list have the same key, and the keys rise.
