@@ -1,5 +1,5 @@
 -- The ingest's seat takes in those of the workers, one by one.
-use Rattle.std.proofs.Common.{◌≡◌, ◌≢◌, ℕ, zero, suc, ◌+◌, ◌<◌, ◌≤◌, Bool, true, false, List, [], ◌∷◌, ◌++◌, length, get_or, refl, sym, ap, ◌∙◌, subst, arith, length-append, lt-ltb, ltb-true, nat_lt}
+use Rattle.std.proofs.Common.{◌≡◌, ◌≢◌, ℕ, zero, suc, ◌+◌, ◌<◌, ◌≤◌, Bool, true, List, [], ◌∷◌, ◌++◌, length, get_or, refl, sym, ap, ◌∙◌, subst, arith, length-append, lt-ltb, ltb-true, nat_lt}
 use Rattle.std.specs.Prelude.{slice_get, Some, vec_capacity}
 use Rattle.std.specs.List.{remove}
 use mathlib.Core.Logic.{dite}
@@ -7,7 +7,7 @@ use native.Mathlib.Decide.{ℕ_discrete, dec_le}
 use Rattle.std.proofs.lemmas.List.{length-map}
 use mathlib.Core.List.{map-append}
 use Rattle.crossbeam_queue.specs.Passes.{view, IsPassOf}
-use Rattle.lane_spec.specs.Counts.{times, total, one_if}
+use Rattle.lane_spec.specs.Counts.{times, one_if}
 use Rattle.lane_spec.specs.Pairs.{Pair, slots_of}
 use Rattle.lane_core.specs.Log.{LogModel}
 use Rattle.lane_core.specs.View.{pairs_in}
@@ -19,7 +19,7 @@ use Rattle.lane_queue.specs.declared.lane.QueueIngest.{QueueIngest}
 use Rattle.lane_queue.specs.declared.lane.QueueWorker.{QueueWorker}
 use Rattle.lane_queue.specs.declared.pool_rule.PoolView.{PoolView}
 use Rattle.lane_queue.specs.PoolRule.{both_parts}
-use Rattle.lane_queue.specs.Lists.{Each, in_logs}
+use Rattle.lane_queue.specs.Lists.{in_logs}
 use Rattle.lane_queue.specs.Seats.{lane_of, IsSender, IsIngestOf, IsWorkerOf}
 use Rattle.lane_queue.specs.Ends.{IsEndedWorker, AreEndedFrom, HasJoined}
 

@@ -1,5 +1,5 @@
 -- Each step on the pool's queue keeps its rule.
-use Rattle.std.proofs.Common.{◌≡◌, ◌≢◌, ◌⊎◌, ℕ, zero, suc, ◌+◌, ◌-◌, ◌<◌, ◌≤◌, Bool, true, false, true≢false, List, [], ◌∷◌, ◌++◌, map, length, set, sym, refl, ap, ◌∙◌, subst, inl, inr, ⊎_elim, arith, Option, Some, None}
+use Rattle.std.proofs.Common.{◌≡◌, ◌≢◌, ℕ, zero, suc, ◌+◌, ◌<◌, Bool, true, false, true≢false, List, [], ◌∷◌, ◌++◌, set, sym, refl, ap, ◌∙◌, subst, ⊎_elim, arith, Option, Some, None}
 use mathlib.Core.Option.{some, some-injective, some-ne-none}
 use mathlib.Core.List.{map-append}
 use lib.ListN.{get_elem?}
@@ -7,7 +7,7 @@ use Rattle.crossbeam_queue.specs.Fifo.{Pushes, Pops, Forks, Merges, Learns}
 use Rattle.atomic_table.proofs.Lists.{at_set, at_snoc}
 use Rattle.packet_owner.specs.Buffer.{BufferModel as Buffer}
 use Rattle.lane_spec.specs.Counts.{total, times, one_if}
-use Rattle.lane_core.proofs.Counting.{times_append, times_here}
+use Rattle.lane_core.proofs.Counting.{times_append}
 use Rattle.lane_core.proofs.Views.{total_set, total_last, total_at, total_two}
 use Rattle.lane_queue.specs.declared.pool_rule.PoolView.{PoolView}
 use Rattle.lane_queue.specs.PoolRule.{pool_view, first_view, spent, kept_parts, given_part, both_parts, slots_in, in_put, in_taken, parts_of, may_take, FitsPool, Stands, Pool, MayFill, Fills, Puts, Takes, Rest, Whole}

@@ -1,10 +1,10 @@
 -- Each step on a ring's queue keeps its rule.
-use Rattle.std.proofs.Common.{◌≡◌, ◌≢◌, ◌⊎◌, ℕ, zero, suc, ◌+◌, ◌<◌, ◌≤◌, Bool, true, false, true≢false, List, [], ◌∷◌, ◌++◌, map, length, set, sym, refl, ap, ◌∙◌, subst, inl, inr, ⊎_elim, arith, append_assoc, append-nil, length-append, Option, Some, None}
+use Rattle.std.proofs.Common.{◌≡◌, ◌≢◌, ℕ, zero, suc, ◌<◌, Bool, true, false, true≢false, List, [], ◌∷◌, ◌++◌, map, length, set, sym, refl, ap, ◌∙◌, subst, inl, inr, ⊎_elim, arith, append_assoc, append-nil, length-append, Option, Some, None}
 use mathlib.Core.Option.{some, some-injective, some-ne-none}
 use mathlib.Core.List.{map-append}
 use lib.ListN.{get_elem?}
 use Rattle.crossbeam_queue.specs.Fifo.{Pushes, Pops, Forks, Merges, Learns}
-use Rattle.atomic_table.proofs.Lists.{at_set, at_snoc}
+use Rattle.atomic_table.proofs.Lists.{at_set}
 use Rattle.std.proofs.lemmas.List.Elements.{All-nil, All-head, All-tail, All-cons}
 use Rattle.packet_owner.specs.Packet.{PacketModel as Pack}
 use Rattle.lane_spec.specs.Pairs.{Pair, AreBelow, AreRising}
@@ -13,7 +13,7 @@ use Rattle.lane_queue.specs.declared.ring_rule.RingAbout.{RingAbout}
 use Rattle.lane_queue.specs.declared.ring_rule.Item.{Item}
 use Rattle.lane_queue.specs.declared.ring_rule.Item.TheVariants.{Packet, End}
 use Rattle.lane_queue.specs.declared.ring_rule.RingView.{RingView}
-use Rattle.lane_queue.specs.RingRule.{ring_view, first_view, spent, first_sender, first_getter, both_halves, pair_of, FitsRing, AllFit, tail_of, Stands, OpenRing, NewRing, Ring, MayPut, MaySend, Sends, MayGet, GetsPacket, Gets, IsDone}
+use Rattle.lane_queue.specs.RingRule.{ring_view, first_view, spent, first_sender, first_getter, both_halves, pair_of, FitsRing, AllFit, tail_of, Stands, OpenRing, NewRing, Ring, MayPut, MaySend, Sends, MayGet, Gets, IsDone}
 
 -- VIEWS
 

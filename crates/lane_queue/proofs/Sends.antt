@@ -1,7 +1,7 @@
 -- What the passes of a ring may do, and what they become.
-use Rattle.std.proofs.Common.{◌≡◌, ℕ, ◌+◌, ◌<◌, ◌≤◌, Bool, true, false, List, [], ◌∷◌, ◌++◌, length, get_or, set, sym, refl, ap, ◌∙◌, subst, arith, Option, inl, inr}
+use Rattle.std.proofs.Common.{◌≡◌, ℕ, ◌<◌, Bool, true, false, List, [], ◌∷◌, ◌++◌, length, get_or, set, sym, ap, ◌∙◌, subst, arith, Option}
 use Rattle.std.proofs.lemmas.List.Elements.{All-get_or}
-use Rattle.crossbeam_queue.specs.Passes.{Pass, view, IsPassOf, IsSamePass}
+use Rattle.crossbeam_queue.specs.Passes.{Pass, view, IsSamePass}
 use Rattle.crossbeam_queue.specs.declared.array_queue.Doing.{Doing}
 use Rattle.crossbeam_queue.specs.declared.array_queue.Slotted.{Slotted}
 use Rattle.brick_spec.specs.Capture.{Contents}
@@ -12,10 +12,10 @@ use Rattle.lane_queue.specs.declared.ring_rule.RingAbout.{RingAbout}
 use Rattle.lane_queue.specs.declared.ring_rule.Item.{Item}
 use Rattle.lane_queue.specs.declared.ring_rule.Item.TheVariants.{Packet, End}
 use Rattle.lane_queue.specs.declared.ring_rule.RingView.{RingView}
-use Rattle.lane_queue.specs.RingRule.{ring_view, sender_view, getter_view, pair_of, FitsRing, MayPut, MaySend, Sends, MayGet, GetsPacket, Gets}
+use Rattle.lane_queue.specs.RingRule.{ring_view, pair_of, MayPut, MaySend, Sends, MayGet, Gets}
 use Rattle.std.specs.Prelude.{slice_get, Some}
 use Rattle.lane_queue.specs.Lists.{Each}
-use Rattle.lane_queue.specs.Seats.{IsRingPass, IsSender, IsGetter}
+use Rattle.lane_queue.specs.Seats.{IsSender, IsGetter}
 use Rattle.lane_queue.proofs.Lists.{each_set}
 use Rattle.lane_queue.proofs.Sums.{log_here, log_else}
 

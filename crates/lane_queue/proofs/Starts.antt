@@ -1,12 +1,12 @@
 -- The pool is filled, buffer by buffer, and the passes and seats are listed.
-use Rattle.std.proofs.Common.{◌≡◌, ℕ, zero, suc, ◌+◌, ◌-◌, ◌<◌, ◌≤◌, List, [], ◌∷◌, ◌++◌, length, replicate, get_or, refl, sym, ap, ◌∙◌, subst, arith, ⊎_elim, Option, Some, None, eq-eqb}
+use Rattle.std.proofs.Common.{◌≡◌, ℕ, zero, suc, ◌+◌, ◌-◌, ◌<◌, ◌≤◌, List, [], ◌∷◌, ◌++◌, length, replicate, refl, sym, ap, ◌∙◌, subst, arith, ⊎_elim, Option, Some}
 use Rattle.std.specs.Prelude.{slice_get}
 use Rattle.std.proofs.lemmas.List.{length-map}
 use mathlib.Core.Logic.{dite}
 use native.Mathlib.Decide.{ℕ_discrete}
 use Rattle.packet_owner.specs.Buffer.{BufferModel}
 use Rattle.lane_spec.specs.Counts.{times, total}
-use Rattle.lane_spec.specs.Pairs.{Pair, slots_of}
+use Rattle.lane_spec.specs.Pairs.{Pair}
 use Rattle.lane_core.specs.Seats.{log_of, IsNewWorker}
 use Rattle.lane_core.proofs.Counting.{times_here}
 use Rattle.lane_core.proofs.Views.{times_next, same_length}

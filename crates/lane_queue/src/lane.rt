@@ -1,6 +1,6 @@
 //! A lane on queues, and its seats.
-ghost use Rattle.std.specs.Prelude.{◌≡◌, ℕ, ◌+◌, ◌^◌, ◌<◌, ◌≤◌, true, [], length, vec_capacity};
-ghost use Rattle.crossbeam_queue.specs.Passes.{view};
+ghost use Rattle.std.specs.Prelude.{◌≡◌, ℕ, ◌+◌, ◌^◌, ◌<◌, ◌≤◌, true, [], All, length, vec_capacity};
+ghost use Rattle.crossbeam_queue.specs.Passes.{view, ruled_capacity};
 ghost use Rattle.lane_spec.specs.Counts.{times, total};
 ghost use Rattle.lane_spec.specs.Pairs.{slots_of};
 ghost use Rattle.lane_core.specs.View.{pairs_in};
@@ -37,6 +37,8 @@ pub struct QueueLane {
     pub(crate) shares: Vec<u32>,
     ghost small: { (1 ≤ buffers) × (buffers ≤ 1024) × (length shares.items ≤ 16) },
     ghost count: { length rings.items ≡ length shares.items },
+    // a place for each buffer, and in a ring one more for END
+    ghost places: { (ruled_capacity pool ≡ buffers) × All (λ q. ruled_capacity q ≡ buffers + 1) rings.items },
     ghost entries: { length key.shared.key.value.entries < 2 ^ 32 },
 }
 

@@ -1,6 +1,6 @@
 // How a lane starts.
-ghost use Rattle.std.specs.Prelude.{◌≡◌, ℕ, ◌+◌, ◌-◌, ◌^◌, ◌<◌, ◌≤◌, false, [], length, replicate, slice_get, slice_index, Some, IfOk, OnOk, vec_capacity};
-ghost use Rattle.crossbeam_queue.specs.Passes.{view, IsPassOf};
+ghost use Rattle.std.specs.Prelude.{◌≡◌, ℕ, ◌+◌, ◌-◌, ◌^◌, ◌<◌, ◌≤◌, false, [], All, length, replicate, slice_get, slice_index, Some, IfOk, OnOk, vec_capacity};
+ghost use Rattle.crossbeam_queue.specs.Passes.{view, IsPassOf, ruled_capacity};
 ghost use Rattle.lane_core.specs.Seats.{IsNewIngest, IsNewWorker};
 ghost use Rattle.lane_core.specs.View.{pairs_in};
 ghost use Rattle.lane_queue.specs.PoolRule.{filled_view};
@@ -39,7 +39,8 @@ fn full_pool<R: Wait>(
     bytes: u32,
 ) -> Result<(Pool, PoolPass), NoMemory>
     requires { 1 ≤ buffers }
-    ensures { IfOk result (λ r. IsPassOf r.0 r.1 × (view r.1 ≡ filled_view 1024 bytes buffers)) }
+    ensures places { IfOk result (λ r. ruled_capacity r.0 ≡ buffers) }
+    ensures full { IfOk result (λ r. IsPassOf r.0 r.1 × (view r.1 ≡ filled_view 1024 bytes buffers)) }
 {
     let (pool, mut pass) = Pool::ruled(alloc, buffers as usize)?;
     for i in 0..buffers {
@@ -59,6 +60,7 @@ fn new_rings(
     workers: usize,
 ) -> Result<(Vec<RingQueue>, Vec<RingPass>), NoMemory>
     ensures count { IfOk result (λ r. (length r.0.items ≡ workers) × (length r.1.items ≡ workers)) }
+    ensures places { IfOk result (λ r. All (λ q. ruled_capacity q ≡ buffers + 1) r.0.items) }
     ensures new { IfOk result (λ r. Each (λ w q p. IsNewPass q p) r.0.items r.1.items) }
 {
     let places = buffers as usize + 1;

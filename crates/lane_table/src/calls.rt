@@ -97,6 +97,7 @@ impl TableLane {
         requires not_ended { (worker_of seat.old).ended ≡ false }
         ensures own { IsWorkerOf self.now seat.new }
         ensures packet { IfPacket result (λ p. (p.room ≡ (lane_of self.now).bytes) × IsRecord (lane_of self.now).capture p.a p × AreBelow p.a (worker_of seat.old).received) }
+        ensures slot { IfPacket result (λ p. (p.slot < (lane_of self.now).buffers) × ((lane_of self.now).buffers ≤ 1024)) }
         ensures received { IfPacket result (λ p. WorkerBecomes (with_packet p.slot p.a (worker_of seat.old)) (worker_of seat.new)) }
         ensures nothing { IfNothing result (WorkerBecomes (with_nothing (worker_of seat.old)) (worker_of seat.new)) }
         ensures exactly { (is_nothing result ≡ true) ↔ (empty_finds seat.old < empty_finds seat.new) }

@@ -165,7 +165,7 @@ fn must_miss(rt: &impl Abort, lane: &TableLane, seat: &mut IngestSeat, capture: 
 }
 
 /// Receives this, and not END.
-fn must_take(rt: &impl Abort, lane: &TableLane, seat: &mut WorkerSeat, record: Option<(u32, u64)>)
+fn must_take(rt: &impl Abort, lane: &TableLane, seat: &mut WorkerSeat, wanted: Option<(u32, u64)>)
     requires own { IsWorkerOf lane.now seat.old }
     requires rests { IsAtRest 0 false (worker_of seat.old) }
     ensures own { IsWorkerOf lane.now seat.new }
@@ -173,7 +173,7 @@ fn must_take(rt: &impl Abort, lane: &TableLane, seat: &mut WorkerSeat, record: O
 {
     let (ended, got) = take_next(lane, seat);
     assert!(rt; !ended);
-    assert_eq!(rt; got, record);
+    assert_eq!(rt; got, wanted);
 }
 
 /// Takes END.

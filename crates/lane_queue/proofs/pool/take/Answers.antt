@@ -1,4 +1,3 @@
-use Rattle.std.proofs.Common.{ap, subst}
 use Rattle.lane_queue.proofs.PoolKeeps.{takes, rests}
 use Rattle.lane_queue.proofs.pool.take.Goals as goal
 

@@ -1,4 +1,4 @@
-use Rattle.std.proofs.Common.{[], ap, ◌∙◌}
+use Rattle.std.proofs.Common.{ap, ◌∙◌}
 use Rattle.lane_queue.specs.RingRule.{first_sender, first_getter}
 use Rattle.lane_queue.proofs.RingKeeps.{opens}
 use Rattle.lane_queue.proofs.start.split_ring.Goals as goal

@@ -1,4 +1,4 @@
-use Rattle.std.proofs.Common.{◌≡◌, ℕ, ap, length, arith}
+use Rattle.std.proofs.Common.{ap, arith}
 use Rattle.std.proofs.lemmas.List.{length-map}
 use Rattle.lane_core.specs.Log.{LogModel}
 use Rattle.lane_queue.proofs.Turns.{still_below, still_few, sent_more}

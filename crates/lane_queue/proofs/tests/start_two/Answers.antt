@@ -1,4 +1,4 @@
-use Rattle.std.proofs.Common.{◌≡◌, ℕ, length, refl, sym, ap, ◌∙◌, subst, arith, get_or}
+use Rattle.std.proofs.Common.{sym, ap, ◌∙◌, arith, get_or}
 use Rattle.std.proofs.lemmas.Option.{slice_get_read}
 use Rattle.lane_queue.proofs.Turns.{new_sent, first_left}
 use Rattle.lane_queue.proofs.tests.start_two.Goals as goal

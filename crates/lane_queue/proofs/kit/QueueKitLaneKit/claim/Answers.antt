@@ -1,5 +1,4 @@
-use Rattle.std.proofs.Common.{◌≡◌, ℕ, ◌+◌, ◌<◌, List, [], ◌∷◌, ◌++◌, length, ap, sym, ◌∙◌, subst, arith, length-append, Option}
-use Rattle.packet_owner.specs.Buffer.{BufferModel}
+use Rattle.std.proofs.Common.{ℕ, List, [], ◌∷◌, ◌++◌, length, ap, ◌∙◌, subst, arith, length-append, Option}
 use Rattle.crossbeam_queue.specs.Passes.{view}
 use Rattle.lane_spec.specs.Counts.{times}
 use Rattle.lane_core.proofs.Counting.{times_append, all_below}

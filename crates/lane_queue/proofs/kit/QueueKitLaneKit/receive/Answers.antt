@@ -1,4 +1,4 @@
-use Rattle.std.proofs.Common.{◌≡◌, ℕ, ◌+◌, ◌<◌, true, false, true≢false, List, [], ◌∷◌, ◌++◌, length, ap, sym, ◌∙◌, subst, arith, refl}
+use Rattle.std.proofs.Common.{◌≡◌, ℕ, ◌<◌, List, [], ◌∷◌, ◌++◌, length, ap, sym, ◌∙◌, subst, arith, refl}
 use Rattle.std.proofs.lemmas.Option.{slice_get_read, slice_get_within}
 use Rattle.crossbeam_queue.specs.Passes.{view}
 use Rattle.lane_spec.specs.Counts.{times}
@@ -6,7 +6,6 @@ use Rattle.lane_spec.specs.Pairs.{Pair, slots_of}
 use Rattle.lane_core.proofs.Counting.{times_append}
 use Rattle.lane_core.proofs.Moves.{slots_more}
 use Rattle.lane_queue.specs.declared.ring_rule.Item.{Item}
-use Rattle.lane_queue.specs.declared.ring_rule.RingView.{RingView}
 use Rattle.lane_queue.specs.RingRule.{Gets}
 use Rattle.lane_queue.specs.Seats.{lane_of, IsGetter}
 use Rattle.lane_queue.proofs.Sums.{below_last}
@@ -60,6 +59,12 @@ returns-in-Some-Packet-clause-packet g c = let l = c.args.lane.now in let s = c.
     let getter = o.getter c.index-ring.result.now (slice_get_read _ _ s.place _ refl (let a = o.place in let b = l.count in omega arith) c.index-ring.ensures) in
     let f = is_got (lane_of l) s.place c.index-ring.result.now s.ring s.received.pairs s.ended p (view c.pop.new.pass) getter (subst (λ (x : Item). Gets (view s.ring) x (view c.pop.new.pass)) c.in-Some-Packet.field-0-is c.in-Some-Packet.ensures.got) in
     (f.room, f.of_capture, f.above)
+
+pub returns-in-Some-Packet-clause-slot : goal.returns-in-Some-Packet-clause-slot
+returns-in-Some-Packet-clause-slot g c = let l = c.args.lane.now in let s = c.args.seat.now in let o = c.requires.own in let p = c.in-Some-Packet.p in
+    let getter = o.getter c.index-ring.result.now (slice_get_read _ _ s.place _ refl (let a = o.place in let b = l.count in omega arith) c.index-ring.ensures) in
+    let f = is_got (lane_of l) s.place c.index-ring.result.now s.ring s.received.pairs s.ended p (view c.pop.new.pass) getter (subst (λ (x : Item). Gets (view s.ring) x (view c.pop.new.pass)) c.in-Some-Packet.field-0-is c.in-Some-Packet.ensures.got) in
+    (f.slot, l.small.1)
 
 pub returns-in-Some-End-clause-own : goal.returns-in-Some-End-clause-own
 returns-in-Some-End-clause-own g c = let l = c.args.lane.now in let s = c.args.seat.now in let o = c.requires.own in

@@ -1,6 +1,6 @@
-use Rattle.std.proofs.Common.{◌≡◌, ◌≢◌, ℕ, ◌+◌, ◌<◌, List, [], ◌∷◌, ◌++◌, length, get_or, ap, sym, ◌∙◌, subst, arith, refl}
+use Rattle.std.proofs.Common.{ℕ, [], ◌∷◌, ap, ◌∙◌, arith}
 use Rattle.crossbeam_queue.specs.Passes.{view}
-use Rattle.lane_spec.specs.Counts.{times, without}
+use Rattle.lane_spec.specs.Counts.{times}
 use Rattle.lane_core.proofs.Counting.{times_append}
 use Rattle.lane_queue.specs.declared.pool_rule.PoolView.{PoolView}
 use Rattle.lane_queue.proofs.Sums.{without_one, below_without, slot_removed}

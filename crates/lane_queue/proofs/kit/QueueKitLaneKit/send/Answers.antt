@@ -1,9 +1,7 @@
-use Rattle.std.proofs.Common.{◌≡◌, ◌≢◌, ℕ, ◌+◌, ◌<◌, Bool, List, [], ◌∷◌, ◌++◌, length, get_or, set, ap, sym, ◌∙◌, subst, arith, refl}
-use Rattle.std.specs.Prelude.{slice_get, Some}
+use Rattle.std.proofs.Common.{◌≡◌, ℕ, ◌<◌, List, [], ◌∷◌, ◌++◌, length, set, ap, ◌∙◌, arith, refl}
 use Rattle.std.proofs.lemmas.Option.{slice_get_read, slice_get_within}
 use Rattle.std.proofs.lemmas.List.{length-map, length-set}
-use Rattle.crossbeam_queue.specs.Passes.{view}
-use Rattle.lane_spec.specs.Counts.{times, without, total}
+use Rattle.lane_spec.specs.Counts.{times, total}
 use Rattle.lane_spec.specs.Pairs.{Pair}
 use Rattle.lane_core.specs.Log.{LogModel}
 use Rattle.lane_core.specs.View.{pairs_in}

@@ -1,7 +1,6 @@
-use Rattle.std.proofs.Common.{◌≡◌, ℕ, ◌+◌, ◌≤◌, List, [], ◌∷◌, ◌++◌, length, sym, ap, ◌∙◌, subst, arith, append_assoc}
+use Rattle.std.proofs.Common.{◌≡◌, ℕ, ◌+◌, List, [], ◌∷◌, ◌++◌, length, sym, ap, ◌∙◌, subst, arith, append_assoc}
 use Rattle.std.specs.List.{remove}
 use mathlib.Core.List.{map-append}
-use Rattle.lane_spec.specs.Pairs.{Pair}
 use Rattle.lane_core.specs.Log.{LogModel}
 use Rattle.lane_core.specs.View.{pairs_in}
 use Rattle.lane_queue.specs.declared.lane.QueueWorker.{QueueWorker}

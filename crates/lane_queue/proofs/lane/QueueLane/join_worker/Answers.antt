@@ -1,6 +1,5 @@
-use Rattle.std.proofs.Common.{◌≡◌, ℕ, ◌<◌, true, List, length, ap, sym, ◌∙◌, subst, arith, refl}
+use Rattle.std.proofs.Common.{ap, sym, ◌∙◌, arith, refl}
 use Rattle.std.proofs.lemmas.Option.{slice_get_read}
-use Rattle.crossbeam_queue.specs.Passes.{view}
 use Rattle.lane_queue.specs.declared.ring_rule.RingView.{RingView}
 use Rattle.lane_queue.proofs.Lists.{get_set_else}
 use Rattle.lane_queue.proofs.PoolKeeps.{merges}

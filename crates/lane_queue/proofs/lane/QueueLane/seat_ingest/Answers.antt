@@ -1,4 +1,4 @@
-use Rattle.std.proofs.Common.{◌≡◌, ℕ, ◌+◌, ◌-◌, ◌<◌, false, List, [], length, get_or, replicate, refl, sym, ap, ◌∙◌, subst, arith}
+use Rattle.std.proofs.Common.{ℕ, false, List, [], length, get_or, replicate, refl, sym, ap, ◌∙◌, subst, arith}
 use Rattle.lane_spec.specs.Counts.{times, total}
 use Rattle.lane_spec.specs.Pairs.{Pair}
 use Rattle.lane_core.specs.Seats.{log_of}

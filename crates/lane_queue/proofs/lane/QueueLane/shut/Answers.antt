@@ -1,7 +1,6 @@
-use Rattle.std.proofs.Common.{◌≡◌, ℕ, ◌+◌, List, [], length, refl, sym, ap, ◌∙◌, subst, arith}
+use Rattle.std.proofs.Common.{◌≡◌, ℕ, ◌+◌, [], length, refl, sym, ap, ◌∙◌, subst, arith}
 use Rattle.std.proofs.lemmas.List.{length-map, ext_get_or}
 use Rattle.lane_spec.specs.Counts.{times, IsEachOnce}
-use Rattle.lane_spec.specs.Pairs.{Pair}
 use Rattle.lane_core.specs.Log.{LogModel}
 use Rattle.lane_core.specs.View.{pairs_in}
 use Rattle.lane_queue.specs.declared.lane.QueueLane.{QueueLane}

@@ -1,4 +1,4 @@
-use Rattle.std.proofs.Common.{◌≡◌, ℕ, ◌<◌, true, cond, List, [], ◌∷◌, ◌++◌, get_or-set_same, arith, sym, ap, ◌∙◌, subst}
+use Rattle.std.proofs.Common.{◌≡◌, ℕ, ◌<◌, ◌≤◌, true, cond, List, [], ◌∷◌, ◌++◌, get_or-set_same, arith, sym, ap, ◌∙◌, subst}
 use Rattle.std.specs.Result.{is_ok}
 use Rattle.lane_spec.specs.Counts.{times}
 use Rattle.lane_spec.specs.Pairs.{AreBelow}
@@ -35,3 +35,8 @@ pub returns-in-Packet-clause-packet : goal.returns-in-Packet-clause-packet
 returns-in-Packet-clause-packet c = let s = c.args.seat.now in let l = c.args.self.now in let seen = log_of s.seat.me.0.received s.place in
     if_packet c.take_entry-got.result (λ p. (p.room ≡ l.bytes) × IsRecord l.table.shared.key.capture.value p.a p × Below p.a seen × (p.slot < l.buffers)) (λ p. (p.room ≡ l.bytes) × IsRecord l.table.shared.key.capture.value p.a p × AreBelow p.a s.received.pairs)
     (λ p h. (h.0, h.1, subst (AreBelow p.a) (sym s.log) (are_below p.a seen h.2))) c.take_entry-got.ensures.packet
+
+pub returns-in-Packet-clause-slot : goal.returns-in-Packet-clause-slot
+returns-in-Packet-clause-slot c = let s = c.args.seat.now in let l = c.args.self.now in let seen = log_of s.seat.me.0.received s.place in
+    if_packet c.take_entry-got.result (λ p. (p.room ≡ l.bytes) × IsRecord l.table.shared.key.capture.value p.a p × Below p.a seen × (p.slot < l.buffers)) (λ p. (p.slot < l.buffers) × (l.buffers ≤ 1024))
+    (λ p h. (h.3, l.small.1)) c.take_entry-got.ensures.packet
