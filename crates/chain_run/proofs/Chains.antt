@@ -11,11 +11,12 @@ use Rattle.flow_spec.specs.Plan.{GroupPlan, leaves_below, flow_meaning}
 use Rattle.flow_work.specs.Node.{fan_results}
 use Rattle.chain_spec.specs.ChainSet as chains
 use Rattle.chain_spec.specs.ChainSet.{windows_in}
-use Rattle.tenant_spec.specs.ChainPlan.{before_stages, group_plan}
+use Rattle.tenant_spec.specs.ChainPlan.{row_of, before_stages, group_plan}
 use Rattle.chain_nodes.proofs.Plans.{root_means}
 use Rattle.chain_nodes.specs.NewNodes.{pipe_new, fan_new}
 use Rattle.chain_nodes.specs.PlanOf as places
 use Rattle.chain_nodes.specs.declared.either.Either.{Either}
+use Rattle.chain_nodes.specs.declared.either.Either.TheVariants.{First, Second}
 use Rattle.chain_nodes.specs.declared.fan.Fan.{Fan}
 use Rattle.chain_nodes.specs.declared.leaf.LeafList.{LeafList}
 use Rattle.chain_nodes.specs.declared.pipe.Pipe.{Pipe}
@@ -28,16 +29,17 @@ use Rattle.chain_run.proofs.Ways.{way_serves, way_bare, below_bare, groups_bare,
 module _ {P : Type 0} (m : Meaning P) (nat : Option NatPlan) (count bytes : ℕ) where
   pub group_made : (g : chains.Group) (p : P) (b : Either LeafList (Fan (Pipe P LeafList))) (r : Result (Pipe P (Either LeafList (Fan (Pipe P LeafList)))) NoMemory) → IsGroupSound nat count bytes 0 g
       → IsPath m nat count bytes [] g.stages p → BelowBuilt m nat count bytes g.below b
-      → IfOk r (λ t. t.path ≡ p) → IfOk r (λ t. t.next ≡ b) → IfOk r (λ t. t.waiting.items ≡ []) → IfOk r (λ t. count < vec_capacity t.waiting) → IfOk r (GroupBuilt m nat count bytes g)
+      → IfOk r (λ t. t.path ≡ p) → IfOk r (λ t. t.next ≡ b) → IfOk r (λ t. t.waiting.items ≡ []) → IfOk r (λ t. count < vec_capacity t.waiting) → IfOk r (λ t. GroupBuilt m nat count bytes g (Second t))
   group_made g p b (Err e) sound path below hp hn hw hr = tt
   group_made g p b (Ok t) sound path' below' hp hn hw hr =
       let path = subst (IsPath m nat count bytes [] g.stages) (sym hp) path' in
       let below = subst (BelowBuilt m nat count bytes g.below) (sym hn) below' in
       let one = plain path below (none_or (windows_in g.stages)) in
+      let new = pipe_new m.stands (below_stands m) (below_results m) (λ (u : Pipe P (Either LeafList (Fan (Pipe P LeafList)))). u.path) (λ u. u.next) t path.begins below.new in
       record {
         row = path.row;
         below = below.plan;
-        new = pipe_new m.stands (below_stands m) (below_results m) (λ (u : Pipe P (Either LeafList (Fan (Pipe P LeafList)))). u.path) (λ u. u.next) t path.begins below.new;
+        new = record { nothing = new.nothing; empty = new.empty };
         serves = way_serves m nat count bytes (below_serves m) [] g.stages t.path t.next t.waiting.items (vec_capacity t.waiting) path hw hr one below.serves;
         bare = λ h. way_bare m nat count bytes (below_serves m) [] g.stages t.path t.next t.waiting.items (vec_capacity t.waiting) path hw hr h.0 (below.bare h.1);
         many = below.many;
@@ -49,13 +51,24 @@ module _ {P : Type 0} (m : Meaning P) (nat : Option NatPlan) (count bytes : ℕ)
         plain path below (inl e) = inl (path.bare e)
         plain path below (inr nz) = inr (below.bare (below_bare nat count bytes (0 + windows_in g.stages) g.below (still nz) sound.1))
 
-  group_plans_are : (gs : List chains.Group) (ts : List (Pipe P (Either LeafList (Fan (Pipe P LeafList))))) → AreBuilt (GroupBuilt m nat count bytes) gs ts → places.group_plans m.row (map (λ (g : chains.Group). g.wanted) gs) ts ≡ map (group_plan nat) gs
+  -- a group without stages
+  pub bare_made : (g : chains.Group) (b : Either LeafList (Fan (Pipe P LeafList))) → g.stages ≡ [] → BelowBuilt m nat count bytes g.below b → GroupBuilt m nat count bytes g (First b)
+  bare_made g b none below = record {
+    row = ap (row_of nat) (sym none);
+    below = below.plan;
+    new = record { nothing = below.new.nothing; empty = below.new.empty };
+    serves = below.serves;
+    bare = λ h. below.bare h.1;
+    many = below.many;
+  }
+
+  group_plans_are : (gs : List chains.Group) (ts : List (places.GroupNode P)) → AreBuilt (GroupBuilt m nat count bytes) gs ts → places.group_plans m.row (map (λ (g : chains.Group). g.wanted) gs) ts ≡ map (group_plan nat) gs
   group_plans_are [] [] h = refl
   group_plans_are (g ∷ gs) (t ∷ ts) (h, hs) = λ i. record { wanted = g.wanted; row = h.row i; below = h.below i } ∷ group_plans_are gs ts hs i
   group_plans_are [] (t ∷ ts) h = absurd h
   group_plans_are (g ∷ gs) [] h = absurd h
 
-  group_many : (gs : List chains.Group) (ts : List (Pipe P (Either LeafList (Fan (Pipe P LeafList))))) → AreBuilt (GroupBuilt m nat count bytes) gs ts → length (fan_results (group_results m) ts) ≡ sum_by (λ (g : GroupPlan). leaves_below g.below) (map (group_plan nat) gs)
+  group_many : (gs : List chains.Group) (ts : List (places.GroupNode P)) → AreBuilt (GroupBuilt m nat count bytes) gs ts → length (fan_results (group_results m) ts) ≡ sum_by (λ (g : GroupPlan). leaves_below g.below) (map (group_plan nat) gs)
   group_many [] [] h = refl
   group_many (g ∷ gs) (t ∷ ts) (h, hs) =
       length-append (group_results m t) (fan_results (group_results m) ts)
@@ -63,19 +76,19 @@ module _ {P : Type 0} (m : Meaning P) (nat : Option NatPlan) (count bytes : ℕ)
   group_many [] (t ∷ ts) h = absurd h
   group_many (g ∷ gs) [] h = absurd h
 
-  pub groups_built : (gs : List chains.Group) (f : Fan (Pipe P (Either LeafList (Fan (Pipe P LeafList))))) → f.groups ≡ map (λ (g : chains.Group). g.wanted) gs → AreBuilt (GroupBuilt m nat count bytes) gs f.places.items → GroupsBuilt m nat count bytes gs f
+  pub groups_built : (gs : List chains.Group) (f : Fan (places.GroupNode P)) → f.groups ≡ map (λ (g : chains.Group). g.wanted) gs → AreBuilt (GroupBuilt m nat count bytes) gs f.places.items → GroupsBuilt m nat count bytes gs f
   groups_built gs f e h =
       let long : length f.groups ≡ length f.places.items = ap length e ∙ (length-map gs (λ (g : chains.Group). g.wanted) ∙ built_long (GroupBuilt m nat count bytes) gs f.places.items h) in
       record {
         plans = ap (λ (ms : List (Option Match)). places.group_plans m.row ms f.places.items) e ∙ group_plans_are gs f.places.items h;
-        new = fan_new (group_stands m) (group_results m) (λ (u : Fan (Pipe P (Either LeafList (Fan (Pipe P LeafList))))). u.groups) (λ u. u.places.items) f long (built_each (GroupBuilt m nat count bytes) _ (λ g t b. b.new) gs f.places.items h);
+        new = fan_new (group_stands m) (group_results m) (λ (u : Fan (places.GroupNode P)). u.groups) (λ u. u.places.items) f long (built_each (GroupBuilt m nat count bytes) _ (λ g t b. b.new) gs f.places.items h);
         serves = (long, built_each (GroupBuilt m nat count bytes) (λ t. group_serves m t count bytes count) (λ g t b. b.serves) gs f.places.items h);
         bare = λ all. (long, built_where (GroupBuilt m nat count bytes) IsBareGroup (λ t. group_serves m t count bytes 0) (λ g t b. b.bare) gs f.places.items h all);
         many = group_many gs f.places.items h;
       }
 
 module _ {P : Type 0} (m : Meaning P) (count bytes : ℕ) where
-  pub root_made : (chain : chains.Chain) (p : P) (f : Fan (Pipe P (Either LeafList (Fan (Pipe P LeafList))))) (r : Result (Pipe P (Fan (Pipe P (Either LeafList (Fan (Pipe P LeafList)))))) NoMemory) → IsChainSound count bytes chain
+  pub root_made : (chain : chains.Chain) (p : P) (f : Fan (places.GroupNode P)) (r : Result (Pipe P (Fan (places.GroupNode P))) NoMemory) → IsChainSound count bytes chain
       → IsPath m chain.nat count bytes (before_stages chain.unparsed) chain.stages p → GroupsBuilt m chain.nat count bytes chain.groups f
       → IfOk r (λ t. t.path ≡ p) → IfOk r (λ t. t.next ≡ f) → IfOk r (λ t. t.waiting.items ≡ []) → IfOk r (λ t. count < vec_capacity t.waiting) → IfOk r (RootBuilt m count bytes chain)
   root_made chain p f (Err e) sound path groups hp hn hw hr = tt
@@ -86,7 +99,7 @@ module _ {P : Type 0} (m : Meaning P) (count bytes : ℕ) where
       record {
         follows = root_means m.row t ∙ (λ i. flow_meaning (record { row = path.row i; groups = groups.plans i }));
         many = groups.many;
-        new = pipe_new m.stands (groups_stand m) (groups_results m) (λ (u : Pipe P (Fan (Pipe P (Either LeafList (Fan (Pipe P LeafList)))))). u.path) (λ u. u.next) t path.begins groups.new;
+        new = pipe_new m.stands (groups_stand m) (groups_results m) (λ (u : Pipe P (Fan (places.GroupNode P))). u.path) (λ u. u.next) t path.begins groups.new;
         serves = way_serves m chain.nat count bytes (groups_serve m) (before_stages chain.unparsed) chain.stages t.path t.next t.waiting.items (vec_capacity t.waiting) path hw hr one groups.serves;
       } where
         plain : IsPath m chain.nat count bytes (before_stages chain.unparsed) chain.stages t.path → GroupsBuilt m chain.nat count bytes chain.groups t.next → (windows_in chain.stages ≡ 0) ⊎ (windows_in chain.stages ≡ 0 → ⊥) → (m.spares t.path ≡ 0) ⊎ groups_serve m t.next count bytes 0

@@ -9,4 +9,5 @@ mod Chains
 mod Needs
 mod Sounds
 mod Balances
+mod Scanned
 mod Cuts

@@ -54,15 +54,15 @@ module _ {P : Type 0} (m : Meaning P) (nat : Option NatPlan) (count bytes : ℕ)
     pub bare : IsBareBelow b → below_serves m t count bytes 0
     pub many : length (below_results m t) ≡ leaves_below (below_plan nat b)
 
-  pub record GroupBuilt (g : chains.Group) (t : Pipe P (Either LeafList (Fan (Pipe P LeafList)))) : Type 0 where
-    pub row : m.row t.path ≡ row_of nat g.stages
-    pub below : places.below_plan m.row t.next ≡ below_plan nat g.below
+  pub record GroupBuilt (g : chains.Group) (t : places.GroupNode P) : Type 0 where
+    pub row : places.group_row m.row t ≡ row_of nat g.stages
+    pub below : places.group_below m.row t ≡ below_plan nat g.below
     pub new : IsNewNode (group_stands m) (group_results m) t
     pub serves : group_serves m t count bytes count
     pub bare : IsBareGroup g → group_serves m t count bytes 0
     pub many : length (group_results m t) ≡ leaves_below (below_plan nat g.below)
 
-  pub record GroupsBuilt (gs : List chains.Group) (f : Fan (Pipe P (Either LeafList (Fan (Pipe P LeafList))))) : Type 0 where
+  pub record GroupsBuilt (gs : List chains.Group) (f : Fan (places.GroupNode P)) : Type 0 where
     pub plans : places.group_plans m.row f.groups f.places.items ≡ map (group_plan nat) gs
     pub new : IsNewNode (groups_stand m) (groups_results m) f
     pub serves : groups_serve m f count bytes count
@@ -70,7 +70,7 @@ module _ {P : Type 0} (m : Meaning P) (nat : Option NatPlan) (count bytes : ℕ)
     pub many : length (groups_results m f) ≡ sum_by (λ (g : GroupPlan). leaves_below g.below) (map (group_plan nat) gs)
 
 -- the root of a chain, beside so many spare buffers of so many bytes, which lie ready
-pub record RootBuilt {P : Type 0} (m : Meaning P) (count bytes : ℕ) (chain : chains.Chain) (t : Pipe P (Fan (Pipe P (Either LeafList (Fan (Pipe P LeafList)))))) : Type 0 where
+pub record RootBuilt {P : Type 0} (m : Meaning P) (count bytes : ℕ) (chain : chains.Chain) (t : Pipe P (Fan (places.GroupNode P))) : Type 0 where
   pub follows : root_makes m t ≡ flow_meaning (plan_of chain)
   pub many : length (root_results m t) ≡ leaf_count (plan_of chain)
   pub new : IsNewNode (root_stands m) (root_results m) t

@@ -11,6 +11,7 @@ use Rattle.flow_work.specs.Node.{ListStands, PipeStands, pipe_makes, fan_makes, 
 use Rattle.chain_nodes.specs.Either.{either_stands, either_makes, either_results, either_serves}
 use Rattle.chain_nodes.specs.Fan.{PlacesStand, FanServes}
 use Rattle.chain_nodes.specs.Node.{PipeServes}
+use Rattle.chain_nodes.specs.PlanOf.{GroupNode}
 use Rattle.chain_nodes.specs.declared.either.Either.{Either}
 use Rattle.chain_nodes.specs.declared.fan.Fan.{Fan}
 use Rattle.chain_nodes.specs.declared.leaf.LeafList.{LeafList}
@@ -71,37 +72,50 @@ module _ {P : Type 0} (m : Meaning P) where
   abbrev pub below_serves : Either LeafList (Fan (Pipe P LeafList)) → ℕ → ℕ → ℕ → Type 0
   below_serves = either_serves list_serves leaves_serve
 
-  abbrev pub group_stands : Pipe P (Either LeafList (Fan (Pipe P LeafList))) → Flow → FlowInput → Parts → Type 0
-  group_stands t flow came parts = PipeStands m.stands below_stands t.path t.next flow came parts
+  -- where it has stages
+  abbrev pub staged_stands : Pipe P (Either LeafList (Fan (Pipe P LeafList))) → Flow → FlowInput → Parts → Type 0
+  staged_stands t flow came parts = PipeStands m.stands below_stands t.path t.next flow came parts
 
-  abbrev pub group_makes : Pipe P (Either LeafList (Fan (Pipe P LeafList))) → made.Meaning
-  group_makes t = pipe_makes m.row below_makes t.path t.next
+  abbrev pub staged_makes : Pipe P (Either LeafList (Fan (Pipe P LeafList))) → made.Meaning
+  staged_makes t = pipe_makes m.row below_makes t.path t.next
 
-  abbrev pub group_results : Pipe P (Either LeafList (Fan (Pipe P LeafList))) → List (List Item)
-  group_results t = below_results t.next
+  abbrev pub staged_results : Pipe P (Either LeafList (Fan (Pipe P LeafList))) → List (List Item)
+  staged_results t = below_results t.next
 
-  abbrev pub group_serves : Pipe P (Either LeafList (Fan (Pipe P LeafList))) → ℕ → ℕ → ℕ → Type 0
-  group_serves t count bytes free = PipeServes m.ready m.spares m.least_room below_serves t.path t.next t.waiting.items (vec_capacity t.waiting) count bytes free
+  abbrev pub staged_serves : Pipe P (Either LeafList (Fan (Pipe P LeafList))) → ℕ → ℕ → ℕ → Type 0
+  staged_serves t count bytes free = PipeServes m.ready m.spares m.least_room below_serves t.path t.next t.waiting.items (vec_capacity t.waiting) count bytes free
+
+  abbrev pub group_stands : GroupNode P → Flow → FlowInput → Parts → Type 0
+  group_stands = either_stands below_stands staged_stands
+
+  abbrev pub group_makes : GroupNode P → made.Meaning
+  group_makes = either_makes below_makes staged_makes
+
+  abbrev pub group_results : GroupNode P → List (List Item)
+  group_results = either_results below_results staged_results
+
+  abbrev pub group_serves : GroupNode P → ℕ → ℕ → ℕ → Type 0
+  group_serves = either_serves below_serves staged_serves
 
   -- THE CHAIN
 
-  abbrev pub groups_stand : Fan (Pipe P (Either LeafList (Fan (Pipe P LeafList)))) → Flow → FlowInput → Parts → Type 0
+  abbrev pub groups_stand : Fan (GroupNode P) → Flow → FlowInput → Parts → Type 0
   groups_stand t flow came parts = PlacesStand group_stands t.groups t.places.items flow came parts
 
-  abbrev pub groups_results : Fan (Pipe P (Either LeafList (Fan (Pipe P LeafList)))) → List (List Item)
+  abbrev pub groups_results : Fan (GroupNode P) → List (List Item)
   groups_results t = fan_results group_results t.places.items
 
-  abbrev pub groups_serve : Fan (Pipe P (Either LeafList (Fan (Pipe P LeafList)))) → ℕ → ℕ → ℕ → Type 0
+  abbrev pub groups_serve : Fan (GroupNode P) → ℕ → ℕ → ℕ → Type 0
   groups_serve t count bytes free = FanServes group_serves t.groups t.places.items count bytes free
 
-  abbrev pub root_stands : Pipe P (Fan (Pipe P (Either LeafList (Fan (Pipe P LeafList))))) → Flow → FlowInput → Parts → Type 0
+  abbrev pub root_stands : Pipe P (Fan (GroupNode P)) → Flow → FlowInput → Parts → Type 0
   root_stands t flow came parts = PipeStands m.stands groups_stand t.path t.next flow came parts
 
-  abbrev pub root_makes : Pipe P (Fan (Pipe P (Either LeafList (Fan (Pipe P LeafList))))) → made.Meaning
-  root_makes t = pipe_makes m.row (λ (f : Fan (Pipe P (Either LeafList (Fan (Pipe P LeafList))))). fan_makes group_makes f.groups f.places.items) t.path t.next
+  abbrev pub root_makes : Pipe P (Fan (GroupNode P)) → made.Meaning
+  root_makes t = pipe_makes m.row (λ (f : Fan (GroupNode P)). fan_makes group_makes f.groups f.places.items) t.path t.next
 
-  abbrev pub root_results : Pipe P (Fan (Pipe P (Either LeafList (Fan (Pipe P LeafList))))) → List (List Item)
+  abbrev pub root_results : Pipe P (Fan (GroupNode P)) → List (List Item)
   root_results t = groups_results t.next
 
-  abbrev pub root_serves : Pipe P (Fan (Pipe P (Either LeafList (Fan (Pipe P LeafList))))) → ℕ → ℕ → ℕ → Type 0
+  abbrev pub root_serves : Pipe P (Fan (GroupNode P)) → ℕ → ℕ → ℕ → Type 0
   root_serves t count bytes free = PipeServes m.ready m.spares m.least_room groups_serve t.path t.next t.waiting.items (vec_capacity t.waiting) count bytes free

@@ -15,6 +15,7 @@ use flow_key::NatPlan;
 use flow_stages::{BalanceStage, FirewallStage, NatStage, RouteStage};
 use lpm_fw::{Rule, Rules, Verdict};
 use map_filter::{OnlyStage, ParsedStage, TosStage, TtlStage};
+use scan_stage::ScanStage;
 use stage_row::PlainStage;
 use std::alloc::Global;
 use std::sync::Arc;
@@ -46,6 +47,15 @@ fn balance_of(
     Ok(PlainStage::Balance(stage))
 }
 
+/// The stage of a text, with this reach.
+fn scan_of(alloc: Global, text: &[u8], reach: u32) -> Result<PlainStage, NoMemory>
+    requires { IsTrue (spec.is_stage_right (spec.Scan text.now reach)) }
+    ensures { IfOk result (λ p. (nat : Option NatPlanMeaning) → PlainBuilt nat (spec.Scan text.now reach) p) }
+{
+    let stage = ScanStage::new(alloc, text, reach)?;
+    Ok(PlainStage::Scan(stage))
+}
+
 /// The plain stage that a stage is.
 fn plain_of(alloc: Global, nat: &Option<NatPlan>, stage: &Stage) -> Result<PlainStage, NoMemory>
     requires right { IsTrue (spec.is_stage_right (stage_view stage.now)) }
@@ -73,8 +83,7 @@ fn plain_of(alloc: Global, nat: &Option<NatPlan>, stage: &Stage) -> Result<Plain
             balance_of(alloc, backends.as_slice(), changes.as_slice())
         }
         Stage::Window { .. } => unreachable!(),
-        // No work of a stage `scan` is built: the reader of chain files refuses it.
-        Stage::Scan { .. } => Err(NoMemory),
+        Stage::Scan { text, reach } => scan_of(alloc, text.as_slice(), *reach),
     }
 }
 

@@ -12,7 +12,15 @@ use chain_types::Chain;
 use std::alloc::Global;
 
 /// A chain: its first stages, and its groups behind them.
-pub type RootPlace<P> = Pipe<P, Fan<Pipe<P, Either<LeafList, Fan<Pipe<P, LeafList>>>>>>;
+pub type RootPlace<P> = Pipe<
+    P,
+    Fan<
+        Either<
+            Either<LeafList, Fan<Pipe<P, LeafList>>>,
+            Pipe<P, Either<LeafList, Fan<Pipe<P, LeafList>>>>,
+        >,
+    >,
+>;
 
 /// The root of a chain, beside so many spare buffers of so many bytes.
 pub fn build_root<P: StagesPath>(
@@ -20,7 +28,18 @@ pub fn build_root<P: StagesPath>(
     chain: &Chain,
     count: u32,
     bytes: u32,
-) -> Result<Pipe<P, Fan<Pipe<P, Either<LeafList, Fan<Pipe<P, LeafList>>>>>>, NoMemory>
+) -> Result<
+    Pipe<
+        P,
+        Fan<
+            Either<
+                Either<LeafList, Fan<Pipe<P, LeafList>>>,
+                Pipe<P, Either<LeafList, Fan<Pipe<P, LeafList>>>>,
+            >,
+        >,
+    >,
+    NoMemory,
+>
     requires { IsChainSound count bytes (chain_view chain.now) }
     ensures { IfOk result (λ t. RootBuilt P.Operator.meaning count bytes (chain_view chain.now) t) }
 {

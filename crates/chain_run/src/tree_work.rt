@@ -18,7 +18,17 @@ use work_core::{ChainWork, NewWork, Returned, WorkResult};
 /// A tenant's chain at work, over paths of one kind.
 #[derive(Drop)]
 pub struct TreeWork<P: StagesPath> {
-    work: NodeWork<Pipe<P, Fan<Pipe<P, Either<LeafList, Fan<Pipe<P, LeafList>>>>>>>,
+    work: NodeWork<
+        Pipe<
+            P,
+            Fan<
+                Either<
+                    Either<LeafList, Fan<Pipe<P, LeafList>>>,
+                    Pipe<P, Either<LeafList, Fan<Pipe<P, LeafList>>>>,
+                >,
+            >,
+        >,
+    >,
 }
 
 impl<P: StagesPath + Send> ChainWork for TreeWork<P> {

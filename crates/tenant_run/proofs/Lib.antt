@@ -1,4 +1,4 @@
-mod Counts
+pub mod Counts
 mod InOrder
 mod Leaves
 mod Turning

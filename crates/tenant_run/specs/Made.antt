@@ -1,13 +1,10 @@
--- What a chain made of a capture, and what it makes of the first records.
-use Rattle.std.specs.Prelude.{◌≡◌, ℕ, ◌+◌, ◌≤◌, List, [], length, map, filter, take}
+-- What a chain makes of the first records.
+use Rattle.std.specs.Prelude.{◌≡◌, ℕ, ◌+◌, ◌≤◌, List, [], length, filter, take}
 use Rattle.brick_spec.specs.Capture.{Contents}
 use Rattle.brick_spec.specs.Item.{Item}
-use Rattle.flow_spec.specs.Answer.{ClassedItem, counts_of}
+use Rattle.flow_spec.specs.Answer.{ClassedItem}
 use Rattle.chain_spec.specs.ChainSet.{Chain}
-use Rattle.tenant_spec.specs.Records.{items_of, classed_items, is_accepted, is_big, accepted_items}
-use Rattle.tenant_spec.specs.Tenant.{outputs_made, reasons}
-use Rattle.work_core.specs.Result.{items_view}
-use Rattle.tenant_run.specs.declared.made.TenantMade.{TenantMade}
+use Rattle.tenant_spec.specs.Records.{items_of, classed_items, is_accepted, is_big}
 use Rattle.tenant_run.specs.declared.records.Counts.{Counts}
 
 -- the accepted ones of the first k records, where none is refused, and the Big ones
@@ -22,9 +19,3 @@ pub record AreCounted (chain : Chain) (c : Contents) (k : ℕ) (counts : Counts)
   pub accepted : counts.accepted ≡ length (accepted_upto chain c k)
   pub big : counts.big ≡ length (big_upto chain c k)
   pub few : counts.accepted + counts.big ≤ k
-
--- what is made is the tenant meaning, where these records are refused
-pub record IsMade (chain : Chain) (refused : List ℕ) (c : Contents) (made : TenantMade) : Type 0 where
-  pub accepted : made.accepted ≡ length (accepted_items chain refused c)
-  pub drops : made.drops ≡ counts_of (reasons chain refused c)
-  pub outputs : map items_view made.outputs.items ≡ outputs_made chain refused c

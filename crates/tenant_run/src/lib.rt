@@ -7,4 +7,4 @@ mod records;
 mod tally;
 mod turns;
 
-pub use made::{TenantMade, make_tenant};
+pub use made::make_tenant;

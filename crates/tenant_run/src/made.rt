@@ -3,29 +3,18 @@ ghost use Rattle.flow_spec.specs.Answer as flows;
 ghost use Rattle.flow_spec.specs.Answer.{ClassedItem};
 ghost use Rattle.flow_spec.specs.Plan.{Plan};
 ghost use Rattle.chain_types.specs.View.{chain_view};
-ghost use Rattle.tenant_run.specs.Made.{IsMade};
+ghost use Rattle.work_core.specs.Made.{IsMade};
 
 use crate::records::{Counts, take_record};
 use crate::tally::with_big;
 use crate::turns::{Turns, take_turn};
 use batch_ops::Batch;
-use brick_base::NoMemory;
+use brick_base::{NoMemory, Numbers};
 use chain_types::Chain;
 use flow_key::classify_all;
-use pcap_io::{Capture, Items};
+use pcap_io::Capture;
 use std::alloc::Global;
-use work_core::{NewWork, chains_own_keys, join_outputs};
-
-/// What a chain makes of a capture.
-#[derive(Drop)]
-pub struct TenantMade {
-    /// How many records were accepted.
-    pub accepted: u32,
-    /// How many records and items were dropped, in the order of the reasons.
-    pub drops: [u32; 9],
-    /// The items of each output, in the order of their keys.
-    pub outputs: Vec<Items>,
-}
+use work_core::{NewWork, TenantDone, chains_own_keys, join_outputs};
 
 /// A law of each work: it answers what the plan means.
 fn answers_mean<W: NewWork>()
@@ -38,7 +27,7 @@ pub fn make_tenant<W: NewWork>(
     alloc: Global,
     chain: &Chain,
     capture: &Capture,
-) -> Result<TenantMade, NoMemory>
+) -> Result<TenantDone, NoMemory>
     ensures { IfOk result (IsMade (chain_view chain.now) [] capture.now) }
 {
     let classes = classify_all(alloc, chain.nat, capture)?;
@@ -61,9 +50,10 @@ pub fn make_tenant<W: NewWork>(
     let mut work = turns.work;
     work.end(alloc, capture.count());
     let result = work.take_results(alloc)?;
-    Ok(TenantMade {
+    Ok(TenantDone {
         accepted: counts.accepted,
-        drops: with_big(result.drops, counts.big)?,
+        refused: Numbers::of(Vec::new(alloc)),
         outputs: join_outputs(alloc, chain, result.groups)?,
+        drops: with_big(result.drops, counts.big)?,
     })
 }

@@ -1,7 +1,7 @@
 -- Buffers that go back stand in places that are all taken.
-use Rattle.std.proofs.Common.{◌≡◌, ◌≢◌, List, [], ◌∷◌, ◌++◌, map, Option, Some, None, refl, ap, sym, subst, ◌∙◌, drop, slice_index_or}
+use Rattle.std.proofs.Common.{◌≡◌, ◌≢◌, ℕ, ◌+◌, ◌<◌, ◌≤◌, List, [], ◌∷◌, ◌++◌, map, length, Option, Some, None, refl, ap, sym, subst, ◌∙◌, arith, drop, slice_index_or, slice_set}
 use Rattle.std.specs.Prelude.{MatchOption}
-use Rattle.std.proofs.lemmas.List.{map-append}
+use Rattle.std.proofs.lemmas.List.{map-append, drop-append-le, drop-drop, drop-set-lt, get_or-drop, length-drop, length-set}
 use Rattle.work_core.specs.Returned.{buffers_of}
 use Rattle.packet_owner.specs.Buffer.{BufferModel as Work}
 
@@ -34,3 +34,31 @@ pub popped : (xs new : List (Option Work)) (r : Option Work) → xs ≡ full (bu
 popped [] new r h ne v e = absurd (ne refl)
 popped (None ∷ xs) new r h ne v e = absurd (no_none xs (buffers_of xs) h)
 popped (Some w ∷ xs) new r h ne v e = subst (λ (o : Option Work). MatchOption o ((w ∷ buffers_of xs ≡ []) × (buffers_of new ≡ [])) (λ x. w ∷ buffers_of xs ≡ x ∷ buffers_of new)) (sym v) (ap (λ ys. w ∷ buffers_of ys) (sym e))
+
+-- WHERE THE FIRST PLACES WERE TAKEN OUT
+
+rest_taken : (xs new : List (Option Work)) (at : ℕ) → new ≡ slice_set xs at None → drop (at + 1) new ≡ drop 1 (drop at xs)
+rest_taken xs new at e = ap (drop (at + 1)) e ∙ (drop-set-lt (at + 1) xs at None (omega arith) ∙ sym (drop-drop 1 at xs))
+
+some_left : (xs : List (Option Work)) (at : ℕ) → at < length xs → drop at xs ≢ []
+some_left xs at h e = let n = ap length e in let m = length-drop at xs in absurd (omega arith)
+
+pub taken_full : (xs new : List (Option Work)) (at : ℕ) → drop at xs ≡ full (buffers_of (drop at xs)) → new ≡ slice_set xs at None → drop (at + 1) new ≡ full (buffers_of (drop (at + 1) new))
+taken_full xs new at h e = popped_full (drop at xs) (drop (at + 1) new) h (rest_taken xs new at e)
+
+pub taken : (xs new : List (Option Work)) (at : ℕ) (r : Option Work) → at < length xs → drop at xs ≡ full (buffers_of (drop at xs)) → r ≡ slice_index_or xs at r → new ≡ slice_set xs at None
+    → MatchOption r ((buffers_of (drop at xs) ≡ []) × (buffers_of (drop (at + 1) new) ≡ [])) (λ w. buffers_of (drop at xs) ≡ w ∷ buffers_of (drop (at + 1) new))
+taken xs new at r below h v e = let at_front : at ≡ at + 0 = omega arith in popped (drop at xs) (drop (at + 1) new) r h (some_left xs at below) (v ∙ (ap (λ (k : ℕ). slice_index_or xs k r) at_front ∙ sym (get_or-drop at xs 0 r))) (rest_taken xs new at e)
+
+pub taken_within : (xs new : List (Option Work)) (at : ℕ) → at < length xs → new ≡ slice_set xs at None → at + 1 ≤ length new
+taken_within xs new at h e = let k = ap length e in let s = length-set xs at None in omega arith
+
+pub put : (xs ys new : List (Option Work)) (front now : ℕ) (w : Work) → drop front xs ≡ full (buffers_of (drop front xs)) → now ≤ length ys → drop now ys ≡ drop front xs → new ≡ ys ++ Some w ∷ []
+    → buffers_of (drop now new) ≡ buffers_of (drop front xs) ++ w ∷ []
+put xs ys new front now w h within same e =
+    pushed (drop front xs) (drop now new) w h (ap (drop now) e ∙ (drop-append-le now ys (Some w ∷ []) within ∙ ap (λ t. t ++ Some w ∷ []) same))
+
+pub put_full : (xs ys new : List (Option Work)) (front now : ℕ) (w : Work) → drop front xs ≡ full (buffers_of (drop front xs)) → now ≤ length ys → drop now ys ≡ drop front xs → new ≡ ys ++ Some w ∷ []
+    → drop now new ≡ full (buffers_of (drop now new))
+put_full xs ys new front now w h within same e =
+    pushed_full (drop front xs) (drop now new) w h (ap (drop now) e ∙ (drop-append-le now ys (Some w ∷ []) within ∙ ap (λ t. t ++ Some w ∷ []) same))

@@ -6,3 +6,4 @@ pub mod ChainWork
 pub mod AnswerLaws
 pub mod Jobs
 pub mod Keys
+pub mod Made

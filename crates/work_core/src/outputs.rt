@@ -17,6 +17,7 @@ use brick_base::NoMemory;
 use chain_types::Chain;
 use pcap_io::{Item, Items};
 use std::alloc::Global;
+use std::mem::swap;
 
 /// So many empty lists.
 fn empty_lists(alloc: Global, many: usize) -> Result<Vec<Vec<Item>>, NoMemory>
@@ -29,14 +30,26 @@ fn empty_lists(alloc: Global, many: usize) -> Result<Vec<Vec<Item>>, NoMemory>
     Ok(lists)
 }
 
-/// Puts the items behind those of a list.
+/// Puts items behind those of a list. Where the list has none, no item is moved.
+fn append_items(list: &mut Vec<Item>, items: Vec<Item>) -> Result<(), NoMemory>
+    ensures { OnOk result (list.new.items ≡ list.old.items ++ items.items) }
+{
+    let mut items = items;
+    if list.is_empty() {
+        swap(list, &mut items);
+        return Ok(());
+    }
+    list.append(&mut items)?;
+    Ok(())
+}
+
+/// Puts the items of a group behind those of an output.
 fn add_to(lists: &mut Vec<Vec<Item>>, output: usize, items: Items) -> Result<(), NoMemory>
     requires { output < length lists.old.items }
     ensures grown { OnOk result (item_lists lists.new.items ≡ grown output items (item_lists lists.old.items)) }
     ensures long { length lists.new.items ≡ length lists.old.items }
 {
-    let mut items = items.into_vec();
-    lists[output].append(&mut items)?;
+    append_items(&mut lists[output], items.into_vec())?;
     Ok(())
 }
 

@@ -1,4 +1,5 @@
-ghost use Rattle.std.specs.Prelude.{◌≡◌, ◌<◌, [], ◌∷◌, ◌++◌, length, MatchOption};
+ghost use Rattle.std.specs.Prelude.{◌≡◌, ◌<◌, ◌≤◌, ◌+◌, [], ◌∷◌, ◌++◌, None, drop, length, MatchOption};
+ghost use Rattle.std.specs.List.{slice_index_or, slice_set};
 
 use arrayvec::ArrayVec;
 use packet_owner::Buffer;
@@ -7,20 +8,45 @@ use std::marker::Model;
 /// At most 32 buffers that go back, in order.
 #[derive(Drop)]
 pub struct Returned {
-    // each place has a buffer
+    // each place from `front` on has a buffer, and those before were taken out
     buffers: ArrayVec<Option<Buffer>, 32>,
+    front: usize,
 }
 
 impl Model for Returned {
-    ghost use Rattle.std.specs.Prelude.{◌≡◌, List, map, Some};
+    ghost use Rattle.std.specs.Prelude.{◌≡◌, ◌≤◌, List, map, drop, Some, length};
     ghost use Rattle.packet_owner.specs.Buffer.{BufferModel};
     ghost use Rattle.work_core.specs.Returned.{buffers_of};
 
     ghost Value = { List BufferModel };
 
-    ghost view = { λ r. buffers_of r.buffers.items };
+    ghost view = { λ r. buffers_of (drop r.front r.buffers.items) };
 
-    ghost invariant = { λ r. r.buffers.items ≡ map Some (buffers_of r.buffers.items) };
+    ghost invariant = { λ r. (r.front ≤ length r.buffers.items) × (drop r.front r.buffers.items ≡ map Some (buffers_of (drop r.front r.buffers.items))) };
+}
+
+/// Takes out what stands at a place. The place stays.
+fn take_at(buffers: &mut ArrayVec<Option<Buffer>, 32>, at: usize) -> Option<Buffer>
+    requires { at < length buffers.old.items }
+    ensures value { result ≡ slice_index_or buffers.old.items at result }
+    ensures items { buffers.new.items ≡ slice_set buffers.old.items at None }
+{
+    buffers[at].take()
+}
+
+/// Makes room for one more. Where there is none, the places before `front` are given up. The new front is returned.
+fn make_room(buffers: &mut ArrayVec<Option<Buffer>, 32>, front: usize) -> usize
+    requires within { front ≤ length buffers.old.items }
+    requires few { length buffers.old.items < 32 + front }
+    ensures within { result ≤ length buffers.new.items }
+    ensures items { drop result buffers.new.items ≡ drop front buffers.old.items }
+    ensures room { length buffers.new.items < 32 }
+{
+    if !buffers.is_full() {
+        return front;
+    }
+    buffers.drain(..front);
+    0
 }
 
 impl Returned {
@@ -30,6 +56,7 @@ impl Returned {
     {
         Returned {
             buffers: ArrayVec::new(),
+            front: 0,
         }
     }
 
@@ -38,6 +65,7 @@ impl Returned {
         requires { length self.old < 32 }
         ensures { self.new ≡ self.old ++ buffer ∷ [] }
     {
+        self.front = make_room(&mut self.buffers, self.front);
         self.buffers.push(Some(buffer));
     }
 
@@ -45,9 +73,15 @@ impl Returned {
     pub fn pop(&mut self) -> Option<Buffer>
         ensures { MatchOption result ((self.old ≡ []) × (self.new ≡ [])) (λ b. self.old ≡ b ∷ self.new) }
     {
-        if self.buffers.is_empty() {
+        if self.front == self.buffers.len() {
             return None;
         }
-        self.buffers.remove(0)
+        let first = take_at(&mut self.buffers, self.front);
+        self.front += 1;
+        if self.front == self.buffers.len() {
+            self.buffers.clear();
+            self.front = 0;
+        }
+        first
     }
 }

@@ -1,4 +1,4 @@
-use Rattle.std.proofs.Common.{◌+◌, List, [], subst}
+use Rattle.std.proofs.Common.{◌+◌, List, [], Ok, subst}
 use Rattle.std.specs.Prelude.{option_map}
 use Rattle.chain_types.specs.StageView.{stages_view}
 use Rattle.chain_types.specs.declared.stage.Stage.{Stage}
@@ -19,5 +19,5 @@ build_below-requires g c =
 pub returns : goal.returns
 returns g c =
     let s = c.args.site.now in
-    let e = c.new.ensures in
-    group_made g.P.Operator.meaning (option_map plan_view s.nat) s.count s.bytes (group_view c.args.group.now) c.in_ok-path.path c.in_ok-next.next c.new.result c.requires (subst (λ (ss : List Stage). IsPath g.P.Operator.meaning (option_map plan_view s.nat) s.count s.bytes [] (stages_view ss) c.in_ok-path.path) c.as_slice.ensures.value c.in_ok-path.ensures) c.in_ok-next.ensures e.path e.next e.none_waits e.has_room
+    let e = c.in_ok-staged.ensures in
+    group_made g.P.Operator.meaning (option_map plan_view s.nat) s.count s.bytes (group_view c.args.group.now) c.in_ok-path.path c.in_ok-next.next (Ok c.in_ok-staged.staged) c.requires (subst (λ (ss : List Stage). IsPath g.P.Operator.meaning (option_map plan_view s.nat) s.count s.bytes [] (stages_view ss) c.in_ok-path.path) c.as_slice.ensures.value c.in_ok-path.ensures) c.in_ok-next.ensures e.path e.next e.none_waits e.has_room

@@ -21,3 +21,8 @@ pub returns-in-Balance : goal.returns-in-Balance
 returns-in-Balance c =
     built_as c.balance_of.result _ _ _
     ((λ i. spec.Balance (backends_view (c.as_slice-in-Balance.ensures.value i)) (map change_view (c.as_slice-in-Balance-2.ensures.value i))) ∙ sym (ap stage_view c.in-Balance.is)) c.balance_of.ensures
+
+pub returns-in-Scan : goal.returns-in-Scan
+returns-in-Scan c =
+    built_as c.scan_of.result _ _ _
+    (ap (λ text. spec.Scan text c.in-Scan.reach) c.as_slice-in-Scan.ensures.value ∙ sym (ap stage_view c.in-Scan.is)) c.scan_of.ensures

@@ -1,12 +1,17 @@
-use Rattle.std.proofs.Common.{◌≡◌, ap, subst, ◌∷◌, [], List, Option, length, ◌==◌, true}
+use Rattle.std.proofs.Common.{◌≡◌, ◌<◌, ◌+◌, [], ◌∷◌, List, length, drop, ap, subst, arith, length-set}
 use Rattle.std.specs.Prelude.{MatchOption}
 use Rattle.work_core.specs.Returned.{buffers_of}
 use Rattle.packet_owner.specs.Buffer.{BufferModel as Work}
-use Rattle.work_core.proofs.Places.{popped, popped_full}
+use Rattle.work_core.proofs.Places.{taken, taken_full, taken_within}
 use Rattle.work_core.proofs.returned.Returned.pop.Goals as goal
 
-pub invariant_of-self : goal.invariant_of-self
-invariant_of-self c = popped_full c.self.inside.buffers.items _ c.self.invariant c.remove.ensures.items
+pub invariant_of-self-else-self-len-2 : goal.invariant_of-self-else-self-len-2
+invariant_of-self-else-self-len-2 c = (
+  taken_within c.self.inside.buffers.items _ c.self.inside.front (omega arith) c.take_at-first.ensures.items,
+  taken_full c.self.inside.buffers.items _ c.self.inside.front c.self.invariant.1 c.take_at-first.ensures.items,
+)
 
-pub returns : goal.returns
-returns c = subst (λ (ws : List Work). MatchOption c.remove.result ((ws ≡ []) × (buffers_of c.remove.new.self.items ≡ [])) (λ w. ws ≡ w ∷ buffers_of c.remove.new.self.items)) c.self.view_is (popped c.self.inside.buffers.items _ c.remove.result c.self.invariant (λ none. let t : (length c.self.inside.buffers.items == 0) ≡ true = ap (λ (xs : List (Option Work)). length xs == 0) none in cc) c.remove.ensures.value c.remove.ensures.items)
+pub returns-else-self-len-2 : goal.returns-else-self-len-2
+returns-else-self-len-2 c =
+    subst (λ (ws : List Work). MatchOption c.take_at-first.result ((ws ≡ []) × (buffers_of (drop (c.self.inside.front + 1) c.take_at-first.new.buffers.items) ≡ [])) (λ w. ws ≡ w ∷ buffers_of (drop (c.self.inside.front + 1) c.take_at-first.new.buffers.items))) c.self.view_is
+    (taken c.self.inside.buffers.items c.take_at-first.new.buffers.items c.self.inside.front c.take_at-first.result (omega arith) c.self.invariant.1 c.take_at-first.ensures.value c.take_at-first.ensures.items)
