@@ -116,6 +116,30 @@ fn finish_all<W: ChainWork>(
 }
 
 /// Runs the jobs as `run_lanes` does, ends their works, and answers what came of each. The works are given up.
+pub fn run_jobs<K: LaneKit, W: ChainWork, R: Threads + Wait + Sync>(
+    rt: &R,
+    alloc: Global,
+    kit: &mut K,
+    jobs: &[TenantJob],
+    works: Vec<Vec<W>>,
+    workers: u32,
+) -> Result<Vec<TenantDone>, NoMemory>
+    requires workers { (1 ≤ workers) × (workers ≤ 16) }
+    requires jobs { length jobs.now ≤ 16 }
+    requires count { length works.items ≡ length jobs.now }
+    requires works { Members (AreNewWorks W.follows W.ready W.stands W.ended W.broken workers) jobs.now works.items }
+    ensures open_lanes { K.open_lanes kit.new ≡ K.open_lanes kit.old }
+    ensures done { IfOk result (λ done. (bs : List LaneBook) × (K.books kit.new ≡ K.books kit.old ++ bs) × AllZip (IsBookOf workers) (map job_view jobs.now) bs
+        × (length done.items ≡ length jobs.now) × Threes (λ job b d. IsTenantDone W.answer workers (job_view job) (unsent_in (job_view job) b) d) jobs.now bs done.items) }
+    ensures no_memory { OnErr result ((bs : List LaneBook) × (K.books kit.new ≡ K.books kit.old ++ bs) × AllZip (IsPartBook workers) (take (length bs) (map job_view jobs.now)) bs) }
+{
+    let lanes = run_lanes::<K, W, R>(rt, alloc, kit, jobs, works, workers)?;
+    let mut done = Vec::new(alloc);
+    finish_all(alloc, jobs, lanes, workers, &mut done)?;
+    Ok(done)
+}
+
+/// Runs the jobs as `run_jobs` does. The jobs are given up too.
 pub fn run_crew<K: LaneKit, W: ChainWork, R: Threads + Wait + Sync>(
     rt: &R,
     alloc: Global,
@@ -133,8 +157,5 @@ pub fn run_crew<K: LaneKit, W: ChainWork, R: Threads + Wait + Sync>(
         × (length done.items ≡ length jobs.items) × Threes (λ job b d. IsTenantDone W.answer workers (job_view job) (unsent_in (job_view job) b) d) jobs.items bs done.items) }
     ensures no_memory { OnErr result ((bs : List LaneBook) × (K.books kit.new ≡ K.books kit.old ++ bs) × AllZip (IsPartBook workers) (take (length bs) (map job_view jobs.items)) bs) }
 {
-    let lanes = run_lanes::<K, W, R>(rt, alloc, kit, &jobs, works, workers)?;
-    let mut done = Vec::new(alloc);
-    finish_all(alloc, &jobs, lanes, workers, &mut done)?;
-    Ok(done)
+    run_jobs::<K, W, R>(rt, alloc, kit, &jobs, works, workers)
 }

@@ -9,12 +9,14 @@ use std::alloc::Global;
 use std::sync::Wait;
 use std::sync::atomic::AtomicU64;
 use std::sync::atomic::Ordering::SeqCst;
+use std::thread;
 
 /// How often the send of a lane's second record looks whether the first was received.
 const MOST_TURNS: u32 = 50_000_000;
 
 /// A kit round a kit. The send of a lane's second record waits until the first was received, for at most 50,000,000 turns, and then
 /// goes on and counts a miss. Else its lanes are those of the kit.
+#[derive(Drop)]
 pub struct GateKit<K: LaneKit> {
     pub kit: K,
     /// How many lanes that were shut had a miss, up to 4,294,967,295.
@@ -53,6 +55,7 @@ fn await_first<L>(lane: &GateLane<L>) {
         if lane.received.load(SeqCst) > 0 {
             return;
         }
+        thread::yield_now();
     }
     lane.missed.store(1, SeqCst);
 }

@@ -13,7 +13,7 @@ mod starting;
 mod working;
 
 pub use crew::{LaneDone, run_lanes};
-pub use done::run_crew;
+pub use done::{run_crew, run_jobs};
 pub use gate::{GateKit, GateLane};
 pub use sending::ingest;
 pub use working::worker;

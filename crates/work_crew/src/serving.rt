@@ -24,16 +24,6 @@ fn class_for(job: &TenantJob, number: u64) -> Class
     job.classes[number as usize]
 }
 
-/// Waits forever where a slot is none of a lane's, which are below 1,024. No kit gives such a packet.
-fn is_of_lane<R: Wait>(rt: &R, slot: u32)
-    ensures { slot < 1024 }
-{
-    if slot >= 1024 {
-        for _ in rt.forever() {}
-        unreachable!()
-    }
-}
-
 /// Receives packets until the batch has 32, none is there, or END was taken. Answers whether END was taken.
 fn gather<K: LaneKit, R: Wait>(
     rt: &R,
@@ -52,7 +42,6 @@ fn gather<K: LaneKit, R: Wait>(
     'each: for done in 0..32u32 {
         match K::receive(rt, lane, seat) {
             Got::Packet(packet) => {
-                is_of_lane(rt, packet.slot());
                 let (number, _) = packet.key();
                 let class = class_for(job, number);
                 batch.push(Work { class, packet });

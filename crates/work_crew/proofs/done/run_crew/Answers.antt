@@ -1,50 +1,9 @@
-use Rattle.std.proofs.Common.{◌≡◌, List, ◌++◌, map, length, sym, ap, ◌∙◌, subst, arith}
-use Rattle.std.specs.Prelude.{slice_get, take}
-use Rattle.std.specs.List.{AllZip}
-use Rattle.std.proofs.lemmas.List.{length-map}
-use Rattle.std.proofs.lemmas.Option.{slice_get_within}
-use Rattle.std.proofs.lemmas.Slice.Zip.{AllZip-long}
-use Rattle.lane_spec.specs.LaneBook.{LaneBook}
-use Rattle.run_spec.specs.Books.{IsBookOf, IsPartBook}
-use Rattle.work_crew.specs.JobView.{job_view}
-use Rattle.work_crew.specs.Dones.{IsTenantDone}
-use Rattle.work_crew.proofs.Rows.{there_at}
-use Rattle.work_crew.proofs.Results.{on_err}
-use Rattle.work_crew.proofs.Dones.{parts_of_wholes}
+use Rattle.std.proofs.Common.{sym, ap, ◌∙◌}
+use Rattle.std.specs.Prelude.{slice_get}
 use Rattle.work_crew.proofs.done.run_crew.Goals as goal
 
-pub run_lanes-requires-clause-works : goal.run_lanes-requires-clause-works
-run_lanes-requires-clause-works g c κs within = λ t x y at at'. c.requires.works t x y (ap (λ l. slice_get l t) (sym c.deref.ensures.value) ∙ at) at'
-
-pub finish_all-requires-clause-lanes : goal.finish_all-requires-clause-lanes
-finish_all-requires-clause-lanes g c κs within = λ t x y at at'.
-    let r = c.in_ok-lanes.ensures.done in
-    let below = slice_get_within c.in_ok-lanes.lanes.items t y at' in
-    let n = r.3 in
-    let m = AllZip-long (IsBookOf c.args.workers) (map job_view c.deref.result.now) r.0 r.2 ∙ length-map c.deref.result.now job_view in
-    let b = there_at r.0 t (omega arith) in
-    (b.0, r.4 t x b.0 y (ap (λ l. slice_get l t) (c.deref.ensures.value ∙ sym c.deref-2.ensures.value) ∙ at) b.1 at')
-
-pub returns-in_err-finish_all-clause-no_memory : goal.returns-in_err-finish_all-clause-no_memory
-returns-in_err-finish_all-clause-no_memory g c =
-    let r = c.in_ok-lanes.ensures.done in
-    let parts : (bs : List LaneBook) × (g.K.LaneKit.books c.run_lanes.new.kit ≡ g.K.LaneKit.books c.args.kit.now ++ bs) × AllZip (IsPartBook c.args.workers) (take (length bs) (map job_view c.args.jobs.items)) bs =
-    (r.0, r.1, parts_of_wholes c.args.workers (map job_view c.args.jobs.items) r.0 (subst (λ l. AllZip (IsBookOf c.args.workers) (map job_view l) r.0) c.deref.ensures.value r.2)) in
-    on_err _ parts
+pub run_jobs-requires-clause-works : goal.run_jobs-requires-clause-works
+run_jobs-requires-clause-works g c κs within = λ t x y at at'. c.requires.works t x y (ap (λ l. slice_get l t) (sym c.deref.ensures.value) ∙ at) at'
 
 pub returns-clause-done : goal.returns-clause-done
-returns-clause-done g c =
-    let r = c.in_ok-lanes.ensures.done in
-    let value = c.deref.ensures.value in
-    let value' = c.deref-2.ensures.value in (
-      r.0,
-      r.1,
-      subst (λ l. AllZip (IsBookOf c.args.workers) (map job_view l) r.0) value r.2,
-      c.in_ok-finish_all.ensures.count ∙ r.3 ∙ ap length value,
-      λ t x b z at_x at_b at_z.
-          let below = slice_get_within c.args.jobs.items t x at_x in
-          let n = r.3 ∙ ap length value in
-          let lane = there_at c.in_ok-lanes.lanes.items t (omega arith) in
-          let d = r.4 t x b lane.0 (ap (λ l. slice_get l t) value ∙ at_x) at_b lane.1 in
-          subst (λ refused. IsTenantDone g.W.ChainWork.answer c.args.workers (job_view x) refused z) d.refused (c.in_ok-finish_all.ensures.done t x lane.0 z (ap (λ l. slice_get l t) value' ∙ at_x) lane.1 at_z),
-    )
+returns-clause-done g c = rw c.deref.ensures.value at c.run_jobs.ensures.done

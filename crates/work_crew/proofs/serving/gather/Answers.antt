@@ -1,4 +1,4 @@
-use Rattle.std.proofs.Common.{◌≡◌, ℕ, ◌<◌, ap, ◌∙◌, sym, subst, length, List, ◌∷◌, [], false, true, arith}
+use Rattle.std.proofs.Common.{◌≡◌, ℕ, ap, ◌∙◌, sym, subst, length, List, ◌∷◌, [], false, true, arith}
 use Rattle.std.proofs.lemmas.List.{length-append}
 use Rattle.brick_spec.specs.Capture.{Contents}
 use Rattle.packet_owner.specs.Packet.{PacketModel}
@@ -19,7 +19,7 @@ each-preserved g c =
     let number : c.key-number.result.0 ≡ p.a = ap (λ (k : ℕ × ℕ). k.0) c.key-number.ensures in
     let w : Work = record { class = c.class_for-class.result; packet = p } in
     let more = gathered_more job (g.K.LaneKit.lane_facts c.args.lane.now).bytes (g.K.LaneKit.worker_facts c.args.seat.now) (g.K.LaneKit.worker_facts c.each.seat) c.each.batch c.each.invariant.gathered
-    (g.K.LaneKit.worker_facts c.receive.new.seat) p c.class_for-class.result e.0 (subst (λ (x : Contents). IsRecord x p.a p) c.requires.capture e.1) (subst (λ (k : ℕ). k < 1024) c.slot.ensures c.is_of_lane.ensures)
+    (g.K.LaneKit.worker_facts c.receive.new.seat) p c.class_for-class.result e.0 (subst (λ (x : Contents). IsRecord x p.a p) c.requires.capture e.1) (let below = c.in-Packet.ensures.slot in omega arith)
     (c.class_for-class.ensures ∙ ap (class_in job) number) r in
     record {
       own = c.receive.ensures.own;
