@@ -1,0 +1,4 @@
+pub mod Chains
+pub mod Inputs
+pub mod Run
+pub mod Written
