@@ -1,10 +1,6 @@
 pub mod Alone
-pub mod Captures
 pub mod Checks
-pub mod Made
-pub mod OutputFiles
+pub mod Generating
+pub mod LanePromises
 pub mod Promises
-pub mod Sets
-pub mod Steps
-pub mod Tenants
-pub mod Whole
+pub mod Words

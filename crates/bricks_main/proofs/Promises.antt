@@ -20,7 +20,7 @@ use Rattle.run_spec.specs.Isolation.{Refusals, AreLinesFrom, IsReportOf, MayHave
 use Rattle.run_spec.proofs.Alone.{unique}
 use Rattle.run_spec.proofs.DoneLines.{lines_are_done}
 use Rattle.run_spec.proofs.Partial.{end_may}
-use Rattle.bricks_main.proofs.Tenants.{all_none, some_both, captured_long, captured_bad, same_contents}
+use Rattle.tenant_files.proofs.Tenants.{all_none, some_both, captured_long, captured_bad, same_contents}
 
 -- what the parts of a run did
 pub record Ran (tells shows : Type 0) (chains out : List ℕ) (refused : Refusals) (before now : Seen) (outcome : Outcome) (status : ℕ) : Type 0 where
@@ -61,7 +61,7 @@ status_is (Reported lines) s (inl e) = inl e
 status_is (Reported lines) s (inr (inl h)) = inr (inl h.0)
 status_is (Reported lines) s (inr (inr e)) = inr (inr e)
 
-report_status : (lines : List Line) → status_of (Reported lines) ≤ 1
+pub report_status : (lines : List Line) → status_of (Reported lines) ≤ 1
 report_status lines = by (list_all is_done lines)
   where
     by : (b : Bool) → (cond b 0 1) ≤ 1
@@ -69,7 +69,7 @@ report_status lines = by (list_all is_done lines)
     by false = omega arith
 
 -- the tenants were to be run
-abbrev IsRun : Outcome → Type 0
+abbrev pub IsRun : Outcome → Type 0
 IsRun Usage = Unit {0}
 IsRun (ChainsRefused f) = Unit {0}
 IsRun StoreFault = Unit {0}
@@ -77,7 +77,7 @@ IsRun NoMemory = Unit {0}
 IsRun (Checked names) = ⊥
 IsRun (Reported lines) = Unit {0}
 
-is_run : (tells : Type 0) (chains out : List ℕ) (refused : Refusals) (before now : Held) (o : Outcome) → IsTrueOf tells chains out refused before now o → IsRun o
+pub is_run : (tells : Type 0) (chains out : List ℕ) (refused : Refusals) (before now : Held) (o : Outcome) → IsTrueOf tells chains out refused before now o → IsRun o
 is_run tells chains out refused before now Usage h = tt
 is_run tells chains out refused before now (ChainsRefused f) h = tt
 is_run tells chains out refused before now StoreFault h = tt
@@ -112,7 +112,7 @@ five_status (Checked names) s run is e = absurd run
 five_status (Reported lines) s run is e = (lines, refl)
 
 -- under status 3 the chain file is refused
-three_status : (o : Outcome) (s : ℕ) → StatusIs o s → s ≡ 3 → (f : ChainFault) × (o ≡ ChainsRefused f)
+pub three_status : (o : Outcome) (s : ℕ) → StatusIs o s → s ≡ 3 → (f : ChainFault) × (o ≡ ChainsRefused f)
 three_status Usage s (inl is) e = absurd (omega arith)
 three_status Usage s (inr is) e = absurd (omega arith)
 three_status (ChainsRefused f) s is e = (f, refl)
@@ -406,7 +406,7 @@ output_good tells chains out refused before now o s x is h e =
     (r.set, c.0, r.says x, c.1)
 
 -- with lines, the outcome is a report; under 0 all are done
-has_lines : (o : Outcome) (s : ℕ) → IsRun o → StatusIs o s → HasLines s → (lines : List Line) × (o ≡ Reported lines) × (s ≡ 0 → AllDone lines)
+pub has_lines : (o : Outcome) (s : ℕ) → IsRun o → StatusIs o s → HasLines s → (lines : List Line) × (o ≡ Reported lines) × (s ≡ 0 → AllDone lines)
 has_lines o s run is (inl e) = let low = low_status o s run is (omega arith) in (low.0, low.1, λ z. zero_done low.0 (sym low.2 ∙ z))
 has_lines o s run is (inr (inl e)) = let low = low_status o s run is (omega arith) in (low.0, low.1, λ z. absurd (omega arith))
 has_lines o s run is (inr (inr e)) = let five = five_status o s run is e in (five.0, five.1, λ z. absurd (omega arith))
@@ -544,6 +544,12 @@ promises_kept tells shows chains out refused before now o s r =
       counts = record { stay = r.counts; tenants = r.tenants };
       completeness = λ t. record { succeeds = complete_of tells chains out refused before now o s t is r.is_true r.sink };
     }
+
+-- the outcome that is told is this one
+pub outcome_kept : (tells shows : Type 0) (chains out : List ℕ) (refused : Refusals) (before now : Seen) (o : Outcome) (s : ℕ) (r : Ran tells shows chains out refused before now o s)
+    → (promises_kept tells shows chains out refused before now o s r).report.outcome ≡ o
+unfolding promises_kept
+outcome_kept tells shows chains out refused before now o s r = refl
 
 pub usage_status : (s : ℕ) → Told Usage s → (s ≡ 2) ⊎ (s ≡ 6)
 usage_status s told = status_is Usage s told

@@ -1,5 +1,2 @@
-pub mod Chains
-pub mod Inputs
 pub mod Lines
-pub mod Run
-pub mod Written
+pub mod OneTenant

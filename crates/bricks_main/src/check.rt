@@ -7,12 +7,12 @@ ghost use Rattle.run_spec.specs.Check.{IsTrueOfCheck, names_of as names_meant};
 ghost use Rattle.chain_types.specs.View.{chain_view};
 ghost use Rattle.run_report.specs.View.{outcome_view};
 
-use crate::chains::{ChainsFault, read_chains};
 use brick_base::{Name, NoMemory};
 use chain_file::Chain;
 use run_report::Outcome;
 use std::alloc::Global;
 use store_io::Store;
+use tenant_files::{ChainsFault, read_chains};
 
 /// The names of the tenants.
 fn names_of(alloc: Global, chains: &[Chain]) -> Result<Vec<Name>, NoMemory>

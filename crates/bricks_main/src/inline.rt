@@ -1,6 +1,6 @@
 //! A run without lanes: the chain file's tenants, from the files of a store to their files. All captures are read in order, and then the
 //! tenants are made and written one after another.
-ghost use Rattle.std.specs.Prelude.{◌≡◌, ◌≢◌, ◌≤◌, ◌<◌, ◌+◌, ◌*◌, ◌++◌, ℕ, List, OnOk, OnErr, IsTrue, length, map};
+ghost use Rattle.std.specs.Prelude.{◌≡◌, ◌≢◌, [], ◌≤◌, ◌<◌, ◌+◌, ◌*◌, ◌++◌, ℕ, List, OnOk, OnErr, IsTrue, length, map};
 ghost use Rattle.brick_spec.specs.Cause.{reading_account, writing_account};
 ghost use Rattle.chain_spec.specs.ChainSet as spec;
 ghost use Rattle.chain_types.specs.View.{chain_view};
@@ -9,21 +9,19 @@ ghost use Rattle.run_spec.specs.Report as report;
 ghost use Rattle.run_spec.specs.Seen.{Held, Says, held};
 ghost use Rattle.run_spec.specs.Tenants.{AllApart, TenantsRan, TenantsMay};
 ghost use Rattle.run_report.specs.View.{line_view, outcome_view};
-ghost use Rattle.bricks_main.specs.Run.{RanOn, CanRun, AllRan};
+ghost use Rattle.tenant_files.specs.Run.{RanOn, CanRun, AllRan};
 
-use crate::chains::{ChainsFault, read_chains};
-use crate::inputs::{TenantInput, read_tenants};
-use crate::written::write_made;
 use brick_base::{Name, NoMemory};
 use chain_file::Chain;
 use chain_run::TenantWork;
 use run_report::{Line, Outcome, TenantEnd};
 use std::alloc::Global;
 use store_io::Store;
+use tenant_files::{ChainsFault, TenantInput, read_chains, read_tenants, write_made};
 use tenant_run::make_tenant;
 
 /// Makes and writes a tenant, where its capture was read whole. After a fault of writing the rest of its files are not touched.
-fn run_tenant<S: Store>(
+pub(crate) fn run_tenant<S: Store>(
     alloc: Global,
     store: &mut S,
     tenant: u32,
@@ -32,7 +30,7 @@ fn run_tenant<S: Store>(
     out: &str,
 ) -> Result<TenantEnd, NoMemory>
     requires { tenant < 16 }
-    ensures ran { RanOn (IsTrue S.tells) out.now tenant (chain_view chain.now) input.now (held (S.file store.old) (S.faults store.old)) (held (S.file store.new) (S.faults store.new)) result }
+    ensures ran { RanOn (IsTrue S.tells) out.now tenant (chain_view chain.now) [] input.now (held (S.file store.old) (S.faults store.old)) (held (S.file store.new) (S.faults store.new)) result }
     ensures later { (a : ℕ) (n : List ℕ) → S.faults store.old a n ≤ S.faults store.new a n }
     ensures others { (a : ℕ) (n : List ℕ) → a ≢ writing_account tenant → S.faults store.new a n ≡ S.faults store.old a n }
 {
@@ -41,8 +39,8 @@ fn run_tenant<S: Store>(
         TenantInput::Bad(refusal) => Ok(TenantEnd::BadCapture(*refusal)),
         TenantInput::Unread => Ok(TenantEnd::ReadFault),
         TenantInput::Whole(capture) => {
-            let made = make_tenant::<TenantWork>(alloc, chain, capture)?;
-            write_made(alloc, store, tenant, chain, out, capture, &made)
+            let done = make_tenant::<TenantWork>(alloc, chain, capture)?;
+            write_made(alloc, store, tenant, chain, out, capture, &done)
         }
     }
 }
@@ -96,7 +94,7 @@ fn run_set<S: Store>(
 ) -> Result<Vec<Line>, NoMemory>
     requires few { length chains.now ≤ 16 }
     requires apart { AllApart out.now (map chain_view chains.now) }
-    ensures ran { AllRan (IsTrue S.tells) out.now (map chain_view chains.now) (held (S.file store.old) (S.faults store.old)) (held (S.file store.new) (S.faults store.new)) result }
+    ensures ran { AllRan (IsTrue S.tells) out.now none_refused (map chain_view chains.now) (held (S.file store.old) (S.faults store.old)) (held (S.file store.new) (S.faults store.new)) result }
     ensures others { (a : ℕ) (n : List ℕ) → 2 * length chains.now < a → S.faults store.new a n ≡ S.faults store.old a n }
 {
     let mut inputs = Vec::with_capacity(alloc, chains.len())?;

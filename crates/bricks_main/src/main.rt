@@ -1,31 +1,35 @@
 //! `bricks`: chains of packet functions over captures in the classic pcap format.
 //!
-//! `bricks [--workers N] inline CHAINS OUT` runs the tenants of the chain file CHAINS and writes their files into the folder OUT, and
-//! `bricks [--workers N] check CHAINS OUT` reads the chain file alone. What both promise is the contract of `run::run_words`, in the
-//! words of the crate `run_spec`.
+//! `bricks [--workers N] run CHAINS OUT` runs the tenants of the chain file CHAINS and writes their files into the folder OUT: each
+//! tenant over a lane of its own, with N workers, which is 1 to 16 and 1 where it is not said. `bricks [--workers N] inline CHAINS OUT`
+//! does the same without lanes, and `bricks [--workers N] check CHAINS OUT` reads the chain file alone. `bricks [--workers N] gen NUMBER OUT`
+//! makes a capture of the number and a chain file, writes them into OUT, and runs them without lanes. What these promise is the contract of
+//! `run::run_words`, in the words of the crate `run_spec`.
 #![tactic(auto)]
 
 ghost use Rattle.std.specs.Prelude.{◌≡◌};
 ghost use Rattle.std.specs.Process.{exit_status};
 
-pub mod chains;
 pub mod check;
+pub mod generated;
 pub mod inline;
-pub mod inputs;
 pub mod laws;
 pub mod run;
 #[cfg(test)]
 mod tests;
-pub mod written;
 
+use lane_table::TableKit;
 use run::{run_words, tell_no_memory, tell_usage};
 use std::env;
 use std::io::ErrorKind;
 use std::process::ExitCode;
+use std::sync::Wait;
+use std::thread::Threads;
 use store_io::{FileStore, OutSink};
 
-/// The words after the program's name, run over the files and the standard output of the system. The answer is the exit status.
-fn run_system(rt: &HostRuntime) -> u8 {
+/// The words after the program's name, run over the files and the standard output of the system, with lanes on tables. The answer is the
+/// exit status.
+fn run_system<R: Threads + Wait + Sync>(rt: &HostRuntime, threads: &R) -> u8 {
     let mut out = OutSink::new(rt);
     let words = match env::args(rt) {
         Ok(args) => args.skip(1).collect::<Vec<String>>(rt.alloc()),
@@ -36,7 +40,8 @@ fn run_system(rt: &HostRuntime) -> u8 {
         return tell_no_memory(&mut out);
     };
     let mut store = FileStore::new(rt);
-    run_words(rt.alloc(), &words, &mut store, &mut out)
+    let mut kit = TableKit::new(rt.alloc());
+    run_words(threads, rt.alloc(), &words, &mut store, &mut out, &mut kit)
 }
 
 /// The exit code of a status.
@@ -48,5 +53,5 @@ fn exit_code(status: u8) -> ExitCode
 
 /// Runs the words after the program's name over the files and the standard output of the system, and ends with the answer.
 fn main(rt: HostRuntime) -> ExitCode {
-    exit_code(run_system(&rt))
+    exit_code(run_system(&rt, &rt))
 }

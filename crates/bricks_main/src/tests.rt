@@ -1,14 +1,19 @@
 //! The worked examples of a run, over a store and a sink in memory.
 mod checks;
 mod faults;
+mod generated;
+mod lanes;
 mod lines;
 mod memory;
 mod tenants;
 mod words;
 
 use crate::run::run_words;
+use lane_table::TableKit;
 use std::alloc::Global;
+use std::sync::Wait;
 use std::test::Fail;
+use std::thread::Threads;
 use store_io::{MemSink, MemStore};
 
 /// The file header of a capture, little-endian with microseconds.
@@ -94,7 +99,8 @@ pub fn copied(alloc: Global, bytes: Option<&[u8]>) -> Result<Option<Vec<u8>>, Fa
 }
 
 /// Runs the words over a store with a chain file and a capture, whose listed calls fail.
-pub fn run(
+pub fn run<R: Threads + Wait + Sync>(
+    rt: &R,
     alloc: Global,
     words: &[&str],
     chains: &str,
@@ -114,7 +120,8 @@ pub fn run(
     files.push((String::from_str(alloc, "a.pcap")?, capture.to_vec(alloc)?))?;
     let mut store = MemStore::new(alloc, files, fails)?;
     let mut sink = MemSink::new(alloc, sink_fails);
-    let status = run_words(alloc, &line, &mut store, &mut sink);
+    let mut kit = TableKit::new(alloc);
+    let status = run_words(rt, alloc, &line, &mut store, &mut sink, &mut kit);
     Ok(Ended {
         status,
         told: sink.bytes().to_vec(alloc)?,

@@ -14,13 +14,25 @@ fn owned(alloc: Global, words: &[&str]) -> Result<Vec<String>, NoMemory> {
 
 #[test]
 fn a_line_is_read(rt: HostRuntime) -> Result<(), Fail> {
-    let words = owned(rt.alloc(), &["--workers", "4", "check", "c.toml", "out"])?;
+    let words = owned(rt.alloc(), &["--workers", "4", "run", "c.toml", "out"])?;
     let Some(line) = read_words(rt.alloc(), &words)? else {
         assert!(rt; false, "these words are a line");
         return Ok(());
     };
-    assert_eq!(rt; (line.mode, line.workers), (Mode::Check, 4));
+    assert_eq!(rt; (line.mode, line.workers), (Mode::Run, 4));
     assert_eq!(rt; (line.chains, line.out), ("c.toml", "out"));
+    Ok(())
+}
+
+#[test]
+fn a_number_is_read(rt: HostRuntime) -> Result<(), Fail> {
+    let words = owned(rt.alloc(), &["gen", "007", "out"])?;
+    let Some(line) = read_words(rt.alloc(), &words)? else {
+        assert!(rt; false, "these words are a line");
+        return Ok(());
+    };
+    assert_eq!(rt; (line.mode, line.workers), (Mode::Gen(7), 1));
+    assert_eq!(rt; (line.chains, line.out), ("007", "out"));
     Ok(())
 }
 

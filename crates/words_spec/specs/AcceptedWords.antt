@@ -43,7 +43,7 @@ pub data Mode : Type 0 where
   -- makes a capture and a chain file, and runs them without lanes
   Gen : Mode
 
--- what is to be done, with how many workers, the name of the chain file, and the folder that is written to
+-- what is to be done, with how many workers, the name of the chain file, which in mode `gen` is a number, and the folder that is written to
 pub record Line : Type 0 where
   pub mode : Mode
   pub workers : ℕ
@@ -57,9 +57,9 @@ abbrev pub mode_among : List (Text × Mode) → Text → Option Mode
 mode_among [] text = None
 mode_among (m ∷ ms) text = if bytes_eq text m.0 then Some m.1 else mode_among ms text
 
--- the words of the modes that there are today
+-- the words of the modes
 abbrev pub modes : List (Text × Mode)
-modes = (codes "inline", Inline) ∷ (codes "check", Check) ∷ []
+modes = (codes "run", Run) ∷ (codes "inline", Inline) ∷ (codes "check", Check) ∷ (codes "gen", Gen) ∷ []
 
 abbrev pub mode_of : Text → Option Mode
 mode_of text = mode_among modes text

@@ -2,11 +2,13 @@
 use crate::tests::{COLLIDING_CHAINS, INLINE, UDP_CHAINS, one_frame, run};
 use std::alloc::Global;
 use std::process::Abort;
+use std::sync::Wait;
 use std::test::Fail;
+use std::thread::Threads;
 
 /// Checks a chain file: the status and what is told. No file is made.
-fn checked(
-    rt: &impl Abort,
+fn checked<R: Abort + Threads + Wait + Sync>(
+    rt: &R,
     alloc: Global,
     name: &str,
     chains: &str,
@@ -15,6 +17,7 @@ fn checked(
 ) -> Result<(), Fail> {
     let (status, told) = ends;
     let run = run(
+        rt,
         alloc,
         &["check", name, "out"],
         chains,
@@ -66,6 +69,7 @@ fn chain_files_that_are_checked(rt: HostRuntime) -> Result<(), Fail> {
 fn the_write_of_a_check_failing(rt: HostRuntime) -> Result<(), Fail> {
     let alloc = rt.alloc();
     let run = run(
+        &rt,
         alloc,
         &["check", "c.toml", "out"],
         UDP_CHAINS,
@@ -88,6 +92,7 @@ fn chain_files_that_are_refused(rt: HostRuntime) -> Result<(), Fail> {
         ("version = 1\n", "chains: 2 Missing place=0 key=tenant\n"),
     ] {
         let run = run(
+            &rt,
             alloc,
             INLINE.as_slice(),
             chains,

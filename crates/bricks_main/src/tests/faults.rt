@@ -3,11 +3,19 @@ use crate::tests::{
     Ended, FRAME, HEAD, HEADER, INLINE, LOWERED, UDP_CHAINS, done_line, joined, one_frame, run,
 };
 use std::alloc::Global;
+use std::sync::Wait;
 use std::test::Fail;
+use std::thread::Threads;
 
 /// Runs a capture, whose call of the store of this number fails.
-fn failing(alloc: Global, capture: &[u8], call: u32) -> Result<Ended, Fail> {
+fn failing<R: Threads + Wait + Sync>(
+    rt: &R,
+    alloc: Global,
+    capture: &[u8],
+    call: u32,
+) -> Result<Ended, Fail> {
     run(
+        rt,
         alloc,
         INLINE.as_slice(),
         UDP_CHAINS,
@@ -32,14 +40,14 @@ fn each_call_of_the_store_failing_in_turn(rt: HostRuntime) -> Result<(), Fail> {
     let capture = one_frame(alloc)?;
     let mut call = 0u32;
     for (status, told) in table {
-        let run = failing(alloc, &capture, call)?;
+        let run = failing(&rt, alloc, &capture, call)?;
         assert_eq!(rt; run.status, status);
         assert!(rt; run.told == told.as_bytes().to_vec(alloc)?, "call {call}");
         assert_eq!(rt; run.output.is_some(), call > 4);
         assert!(rt; run.refused.is_none());
         call = call.saturating_add(1);
     }
-    assert_eq!(rt; failing(alloc, &capture, call)?.status, 0);
+    assert_eq!(rt; failing(&rt, alloc, &capture, call)?.status, 0);
     Ok(())
 }
 
@@ -54,7 +62,7 @@ fn the_half_written_output(rt: HostRuntime) -> Result<(), Fail> {
     let capture = one_frame(alloc)?;
     let mut found = 0;
     for call in 0..8u32 {
-        let run = failing(alloc, &capture, call)?;
+        let run = failing(&rt, alloc, &capture, call)?;
         if run.output == half {
             assert_eq!(rt; run.status, 1);
             assert!(rt; run.told == b"a write-fault\n".to_vec(alloc)?);
@@ -81,7 +89,7 @@ fn long_texts_are_appended_in_pieces(rt: HostRuntime) -> Result<(), Fail> {
     }
     let mut lengths = Vec::new(alloc);
     for call in 0..26u32 {
-        let run = failing(alloc, &capture, call)?;
+        let run = failing(&rt, alloc, &capture, call)?;
         if let Some(output) = &run.output {
             lengths.push(output.len())?;
         }
@@ -98,6 +106,7 @@ fn the_write_of_the_report_failing(rt: HostRuntime) -> Result<(), Fail> {
         &[HEADER.as_slice(), HEAD.as_slice(), LOWERED.as_slice()],
     )?;
     let run = run(
+        &rt,
         alloc,
         INLINE.as_slice(),
         UDP_CHAINS,
@@ -119,6 +128,7 @@ fn the_write_of_the_report_failing(rt: HostRuntime) -> Result<(), Fail> {
 fn the_second_write_of_the_sink_failing(rt: HostRuntime) -> Result<(), Fail> {
     let alloc = rt.alloc();
     let run = run(
+        &rt,
         alloc,
         INLINE.as_slice(),
         UDP_CHAINS,

@@ -5,12 +5,15 @@ use crate::tests::{
 };
 use std::alloc::Global;
 use std::process::Abort;
+use std::sync::Wait;
 use std::test::Fail;
+use std::thread::Threads;
 
 #[test]
 fn the_first_path(rt: HostRuntime) -> Result<(), Fail> {
     let alloc = rt.alloc();
     let run = run(
+        &rt,
         alloc,
         INLINE.as_slice(),
         UDP_CHAINS,
@@ -35,6 +38,7 @@ fn the_first_path(rt: HostRuntime) -> Result<(), Fail> {
 fn another_protocol(rt: HostRuntime) -> Result<(), Fail> {
     let alloc = rt.alloc();
     let run = run(
+        &rt,
         alloc,
         INLINE.as_slice(),
         TCP_CHAINS,
@@ -52,6 +56,7 @@ fn another_protocol(rt: HostRuntime) -> Result<(), Fail> {
 fn the_empty_capture(rt: HostRuntime) -> Result<(), Fail> {
     let alloc = rt.alloc();
     let run = run(
+        &rt,
         alloc,
         INLINE.as_slice(),
         UDP_CHAINS,
@@ -70,6 +75,7 @@ fn the_foreign_resolution_capture(rt: HostRuntime) -> Result<(), Fail> {
     let alloc = rt.alloc();
     let capture = joined(alloc, &[FOREIGN.as_slice(), FRAME.as_slice()])?;
     let run = run(
+        &rt,
         alloc,
         INLINE.as_slice(),
         UDP_CHAINS,
@@ -90,8 +96,14 @@ fn the_foreign_resolution_capture(rt: HostRuntime) -> Result<(), Fail> {
 }
 
 /// Runs a capture that is not read: the line is told under status 1, and no file is made.
-fn refused(rt: &impl Abort, alloc: Global, capture: &[u8], line: &str) -> Result<(), Fail> {
+fn refused<R: Abort + Threads + Wait + Sync>(
+    rt: &R,
+    alloc: Global,
+    capture: &[u8],
+    line: &str,
+) -> Result<(), Fail> {
     let run = run(
+        rt,
         alloc,
         INLINE.as_slice(),
         UDP_CHAINS,
@@ -178,6 +190,7 @@ fn a_record_that_is_big(rt: HostRuntime) -> Result<(), Fail> {
         ],
     )?;
     let run = run(
+        &rt,
         alloc,
         INLINE.as_slice(),
         UDP_CHAINS,
@@ -216,6 +229,7 @@ fn a_frame_that_is_not_ipv4(rt: HostRuntime) -> Result<(), Fail> {
     let capture = one_other_frame(alloc)?;
     let none = || Vec::new(alloc);
     let passed = run(
+        &rt,
         alloc,
         INLINE.as_slice(),
         TCP_CHAINS,
@@ -227,6 +241,7 @@ fn a_frame_that_is_not_ipv4(rt: HostRuntime) -> Result<(), Fail> {
     assert!(rt; passed.told == done_line(alloc, 1, 1, 0, 0, 1)?.into_bytes());
     assert!(rt; passed.output == Some(capture.clone()?));
     let dropped = run(
+        &rt,
         alloc,
         INLINE.as_slice(),
         OTHER_CHAINS,

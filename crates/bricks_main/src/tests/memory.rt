@@ -2,6 +2,7 @@
 use crate::run::run_words;
 use crate::tests::{FRAME, HEAD, HEADER, INLINE, UDP_CHAINS};
 use brick_base::NoMemory;
+use lane_table::TableKit;
 use std::alloc::Global;
 use store_io::{MemSink, MemStore};
 
@@ -50,7 +51,8 @@ fn memory_may_be_refused(rt: HostRuntime) {
         return;
     };
     let mut sink = MemSink::new(alloc, Vec::new(alloc));
-    let status = run_words(alloc, &words, &mut store, &mut sink);
+    let mut kit = TableKit::new(alloc);
+    let status = run_words(&rt, alloc, &words, &mut store, &mut sink, &mut kit);
     let output = store.file("out/a.g.pcap");
     let refused = store.file("out/a.refused");
     if status == 0 {

@@ -1,8 +1,11 @@
 //! Two tenants.
 use crate::run::run_words;
 use crate::tests::{FRAME, HEAD, HEADER, INLINE, LOWERED, copied, joined};
+use lane_table::TableKit;
 use std::alloc::Global;
+use std::sync::Wait;
 use std::test::Fail;
+use std::thread::Threads;
 use store_io::{MemSink, MemStore};
 
 /// Tenants a and b, each with its own capture and one output.
@@ -30,7 +33,8 @@ struct Left {
 }
 
 /// Runs the tenants of a chain file on two captures, where these calls fail.
-fn run_two(
+fn run_two<R: Threads + Wait + Sync>(
+    rt: &R,
     alloc: Global,
     chains: &str,
     captures: (&[u8], &[u8]),
@@ -52,7 +56,8 @@ fn run_two(
     files.push((String::from_str(alloc, "b.pcap")?, second.to_vec(alloc)?))?;
     let mut store = MemStore::new(alloc, files, store_fails)?;
     let mut sink = MemSink::new(alloc, sink_fails);
-    let status = run_words(alloc, &words, &mut store, &mut sink);
+    let mut kit = TableKit::new(alloc);
+    let status = run_words(rt, alloc, &words, &mut store, &mut sink, &mut kit);
     let mut left = Vec::new(alloc);
     for name in names {
         left.push(copied(alloc, store.file(name))?)?;
@@ -93,6 +98,7 @@ fn the_cut_record_tenant(rt: HostRuntime) -> Result<(), Fail> {
         "out/b.refused",
     ];
     let left = run_two(
+        &rt,
         alloc,
         TWO,
         (&cut, &whole),
@@ -128,6 +134,7 @@ fn the_second_append_of_the_second_tenant_failing(rt: HostRuntime) -> Result<(),
     ];
     let fails = (vec![in alloc; 14]?, Vec::new(alloc));
     let left = run_two(
+        &rt,
         alloc,
         TWO_OUTPUTS,
         (HEADER.as_slice(), HEADER.as_slice()),
@@ -153,6 +160,7 @@ fn the_only_write_of_the_sink_failing(rt: HostRuntime) -> Result<(), Fail> {
     let names = ["out/a.g.pcap", "out/b.h.pcap", "out/b.refused"];
     let fails = (Vec::new(alloc), vec![in alloc; 0]?);
     let left = run_two(
+        &rt,
         alloc,
         TWO_OUTPUTS,
         (HEADER.as_slice(), HEADER.as_slice()),
@@ -173,6 +181,7 @@ fn as_many_calls_as_there_are(rt: HostRuntime) -> Result<(), Fail> {
     let names = ["out/b.refused"];
     let captures = (HEADER.as_slice(), HEADER.as_slice());
     let last = run_two(
+        &rt,
         alloc,
         TWO_OUTPUTS,
         captures,
@@ -182,6 +191,7 @@ fn as_many_calls_as_there_are(rt: HostRuntime) -> Result<(), Fail> {
     assert_eq!(rt; last.status, 1);
     assert!(rt; at(&last, 0).is_none());
     let none = run_two(
+        &rt,
         alloc,
         TWO_OUTPUTS,
         captures,
@@ -190,5 +200,124 @@ fn as_many_calls_as_there_are(rt: HostRuntime) -> Result<(), Fail> {
     )?;
     assert_eq!(rt; none.status, 0);
     assert!(rt; at(&none, 0) == Some(&[]));
+    Ok(())
+}
+
+/// What the run tells of tenant a and of tenant b, and how long their files are, where they are there.
+type Row = (&'static str, &'static str, [Option<usize>; 6]);
+
+/// Each call of the store in turn fails: the two of the chain file, the two of each capture, and of each tenant those that make and fill two
+/// outputs of 24 bytes and make the refused file. A text whose call fails is written to its half.
+#[test]
+fn each_call_over_two_tenants_failing_in_turn(rt: HostRuntime) -> Result<(), Fail> {
+    const ALL: Option<usize> = Some(24);
+    const HALF: Option<usize> = Some(12);
+    const EMPTY: Option<usize> = Some(0);
+    let table: [Row; 16] = [
+        ("", "store-fault\n", [None; 6]),
+        ("", "store-fault\n", [None; 6]),
+        (
+            " read-fault\n",
+            NONE_DONE,
+            [None, None, None, ALL, ALL, EMPTY],
+        ),
+        (
+            " read-fault\n",
+            NONE_DONE,
+            [None, None, None, ALL, ALL, EMPTY],
+        ),
+        (
+            NONE_DONE,
+            " read-fault\n",
+            [ALL, ALL, EMPTY, None, None, None],
+        ),
+        (
+            NONE_DONE,
+            " read-fault\n",
+            [ALL, ALL, EMPTY, None, None, None],
+        ),
+        (
+            " write-fault\n",
+            NONE_DONE,
+            [None, None, None, ALL, ALL, EMPTY],
+        ),
+        (
+            " write-fault\n",
+            NONE_DONE,
+            [HALF, None, None, ALL, ALL, EMPTY],
+        ),
+        (
+            " write-fault\n",
+            NONE_DONE,
+            [ALL, None, None, ALL, ALL, EMPTY],
+        ),
+        (
+            " write-fault\n",
+            NONE_DONE,
+            [ALL, HALF, None, ALL, ALL, EMPTY],
+        ),
+        (
+            " write-fault\n",
+            NONE_DONE,
+            [ALL, ALL, None, ALL, ALL, EMPTY],
+        ),
+        (
+            NONE_DONE,
+            " write-fault\n",
+            [ALL, ALL, EMPTY, None, None, None],
+        ),
+        (
+            NONE_DONE,
+            " write-fault\n",
+            [ALL, ALL, EMPTY, HALF, None, None],
+        ),
+        (
+            NONE_DONE,
+            " write-fault\n",
+            [ALL, ALL, EMPTY, ALL, None, None],
+        ),
+        (
+            NONE_DONE,
+            " write-fault\n",
+            [ALL, ALL, EMPTY, ALL, HALF, None],
+        ),
+        (
+            NONE_DONE,
+            " write-fault\n",
+            [ALL, ALL, EMPTY, ALL, ALL, None],
+        ),
+    ];
+    let alloc = rt.alloc();
+    let names = [
+        "out/a.g.pcap",
+        "out/a.h.pcap",
+        "out/a.refused",
+        "out/b.g.pcap",
+        "out/b.h.pcap",
+        "out/b.refused",
+    ];
+    let captures = (HEADER.as_slice(), HEADER.as_slice());
+    let mut call = 0u32;
+    for (first, second, lengths) in table {
+        let fails = (vec![in alloc; call]?, Vec::new(alloc));
+        let left = run_two(&rt, alloc, TWO_OUTPUTS, captures, fails, &names)?;
+        let (status, told) = if first.is_empty() {
+            (4, String::from_str(alloc, second)?)
+        } else {
+            (1, format!(in alloc; "a{first}b{second}")?)
+        };
+        assert_eq!(rt; left.status, status, "call {call}");
+        assert!(rt; left.told == told.into_bytes(), "call {call}");
+        let mut file = 0usize;
+        for length in lengths {
+            assert_eq!(rt;
+                at(&left, file).map(|bytes| bytes.len()),
+                length,
+                "call {call}"
+            );
+            file = file.saturating_add(1);
+        }
+        call = call.saturating_add(1);
+    }
     Ok(())
 }

@@ -5,8 +5,8 @@ use std::test::Fail;
 #[test]
 fn words_that_are_no_line(rt: HostRuntime) -> Result<(), Fail> {
     let alloc = rt.alloc();
-    let lines: [&[&str]; 9] = [
-        &["--workers", "17", "inline", "c.toml", "out"],
+    let lines: [&[&str]; 11] = [
+        &["--workers", "17", "run", "c.toml", "out"],
         &["--workers", "0", "inline", "c.toml", "out"],
         &["--workers", "01", "inline", "c.toml", "out"],
         &[
@@ -18,6 +18,8 @@ fn words_that_are_no_line(rt: HostRuntime) -> Result<(), Fail> {
             "c.toml",
             "out",
         ],
+        &["gen", "18446744073709551616", "out"],
+        &["gen", "7", "my out"],
         &["inline", "c.toml"],
         &["inline", "c.toml", "out", "x"],
         &["--verbose", "inline", "c.toml", "out"],
@@ -26,6 +28,7 @@ fn words_that_are_no_line(rt: HostRuntime) -> Result<(), Fail> {
     ];
     for words in lines {
         let run = run(
+            &rt,
             alloc,
             words,
             UDP_CHAINS,
@@ -49,6 +52,7 @@ fn workers_before_and_after_the_words(rt: HostRuntime) -> Result<(), Fail> {
     ];
     for words in lines {
         let run = run(
+            &rt,
             alloc,
             words,
             UDP_CHAINS,

@@ -6,25 +6,25 @@ use Rattle.run_spec.specs.Report as report
 use Rattle.run_spec.specs.Seen.{held}
 use Rattle.run_spec.specs.Tenants.{TenantsRan}
 use Rattle.run_report.specs.View.{line_view}
-use Rattle.bricks_main.specs.Inputs.{AreInputs}
-use Rattle.bricks_main.specs.Run.{CanRun}
-use Rattle.bricks_main.proofs.Steps.{ran_none, may_none, may_stay, may_after, captures_stay, list_is, mapped_is}
+use Rattle.tenant_files.specs.Inputs.{AreInputs}
+use Rattle.tenant_files.specs.Run.{CanRun}
+use Rattle.tenant_files.proofs.Steps.{ran_none, may_none, may_stay, may_after, captures_stay, list_is, mapped_is}
 use Rattle.bricks_main.proofs.inline.run_set.Goals as goal
 
 pub returns-in_err-inputs-clause-ran : goal.returns-in_err-inputs-clause-ran
 returns-in_err-inputs-clause-ran g c =
-    ran_none _ _ c.args.out.now (map chain_view c.args.chains.now) (held (g.S.Store.file c.args.store.now) (g.S.Store.faults c.args.store.now)) _ c.from_residual.ensures.0
-    (λ tells. may_none c.args.out.now 0 (map chain_view c.args.chains.now) (g.S.Store.file c.args.store.now))
+    ran_none _ _ c.args.out.now none_refused (map chain_view c.args.chains.now) (held (g.S.Store.file c.args.store.now) (g.S.Store.faults c.args.store.now)) _ c.from_residual.ensures.0
+    (λ tells. may_none c.args.out.now none_refused 0 (map chain_view c.args.chains.now) (g.S.Store.file c.args.store.now))
 
 pub returns-in_err-lines-clause-ran : goal.returns-in_err-lines-clause-ran
 returns-in_err-lines-clause-ran g c =
-    ran_none _ _ c.args.out.now (map chain_view c.args.chains.now) (held (g.S.Store.file c.args.store.now) (g.S.Store.faults c.args.store.now)) _ c.from_residual-in_err-lines.ensures.0
-    (λ tells. may_none c.args.out.now 0 (map chain_view c.args.chains.now) (g.S.Store.file c.args.store.now))
+    ran_none _ _ c.args.out.now none_refused (map chain_view c.args.chains.now) (held (g.S.Store.file c.args.store.now) (g.S.Store.faults c.args.store.now)) _ c.from_residual-in_err-lines.ensures.0
+    (λ tells. may_none c.args.out.now none_refused 0 (map chain_view c.args.chains.now) (g.S.Store.file c.args.store.now))
 
 pub returns-in_err-read_tenants-clause-ran : goal.returns-in_err-read_tenants-clause-ran
 returns-in_err-read_tenants-clause-ran g c =
-    ran_none _ _ c.args.out.now (map chain_view c.args.chains.now) (held (g.S.Store.file c.args.store.now) (g.S.Store.faults c.args.store.now)) _ c.from_residual-in_err-read_tenants.ensures.0
-    (λ tells. may_stay c.args.out.now 0 (map chain_view c.args.chains.now) (g.S.Store.file c.args.store.now) (g.S.Store.file c.read_tenants.new.store) (c.read_tenants.ensures.held tells))
+    ran_none _ _ c.args.out.now none_refused (map chain_view c.args.chains.now) (held (g.S.Store.file c.args.store.now) (g.S.Store.faults c.args.store.now)) _ c.from_residual-in_err-read_tenants.ensures.0
+    (λ tells. may_stay c.args.out.now none_refused 0 (map chain_view c.args.chains.now) (g.S.Store.file c.args.store.now) (g.S.Store.file c.read_tenants.new.store) (c.read_tenants.ensures.held tells))
 
 pub returns-in_err-run_tenants-clause-ran : goal.returns-in_err-run_tenants-clause-ran
 returns-in_err-run_tenants-clause-ran g c =
@@ -38,8 +38,8 @@ returns-in_err-run_tenants-clause-ran g c =
       later = c.in_ok-read_tenants.ensures.later;
       apart = c.requires.apart;
     } in
-    ran_none _ _ c.args.out.now (map chain_view c.args.chains.now) first _ c.from_residual-in_err-run_tenants.ensures.0
-    (λ tells. may_after c.args.out.now 0 (map chain_view c.args.chains.now) first.files mid.files (g.S.Store.file c.run_tenants.new.store) (c.in_ok-read_tenants.ensures.held tells) (c.in_err-run_tenants.ensures.may first can tells))
+    ran_none _ _ c.args.out.now none_refused (map chain_view c.args.chains.now) first _ c.from_residual-in_err-run_tenants.ensures.0
+    (λ tells. may_after c.args.out.now none_refused 0 (map chain_view c.args.chains.now) first.files mid.files (g.S.Store.file c.run_tenants.new.store) (c.in_ok-read_tenants.ensures.held tells) (c.in_err-run_tenants.ensures.may first can tells))
 
 pub returns-clause-ran : goal.returns-clause-ran
 returns-clause-ran g c =

@@ -1,5 +1,0 @@
-use Rattle.std.proofs.Common.{length}
-use Rattle.bricks_main.proofs.inputs.+read_tenants.Given as goal
-
-abbrev pub decreases-read_tenants : goal.decreases-read_tenants
-decreases-read_tenants g l = length l.chains.now
