@@ -1,6 +1,6 @@
 #!/usr/bin/env python3
 """Makes chains and captures by a fixed generator, and compares what the built program makes of them with tools/plain_meaning.py: every file, byte
-for byte, and the report.
+for byte, and the report, without lanes and over lanes.
 
 Run at the top of the repository: tools/compare_plain.py [CASES [FIRST]], 300 cases from number 0 on where nothing is given.
 """
@@ -42,7 +42,8 @@ def tcp_frame(random_, starts, nat):
     back = random_.random() < 0.4
     start = starts.setdefault((inside, server, back), random_.choice([0, 1000, 2**32 - 200, random_.randrange(2**32)]))
     flags = random_.choice([16, 16, 16, 24, 17, 2, 4, 18])
-    data = bytes(random_.randrange(256) for _ in range(random_.choice([0, 0, 1, 40, 64, 100, 200])))
+    letters = random_.choice([range(256), b"ab"])
+    data = bytes(random_.choice(letters) for _ in range(random_.choice([0, 0, 1, 40, 64, 100, 200])))
     ahead = random_.choice([0, 0, 64, 100, 200, 300, 5000, -20, 2**31])
     source, destination = (server, inside) if back else (inside, server)
     if back and nat and random_.random() < 0.7:
@@ -163,12 +164,15 @@ def stage_of(random_, kind):
     if kind == "window":
         sizes = {"size": random_.choice([64, 64, 100, 1460]), "reach": random_.choice([1460, 65536])}
         return dict(sizes), dict(sizes)
+    if kind == "scan":
+        text, reach = "".join(random_.choice("ab") for _ in range(random_.choice([1, 2, 5, 8, 12]))), random_.choice([1460, 65536])
+        return {"find": text.encode(), "reach": reach}, {"find": text, "reach": reach}
     return {}, {}
 
 
 def row_of(random_, nat, windows, most):
     """Some stages, at most one of them a window where one may stand here."""
-    kinds = ["ttl", "set_tos", "only", "firewall", "route", "balance"] + (["nat", "nat"] if nat else []) + (["window", "window", "window"] if windows else [])
+    kinds = ["ttl", "set_tos", "only", "firewall", "route", "balance", "scan"] + (["nat", "nat"] if nat else []) + (["window", "window", "window"] if windows else [])
     meant, words = [], []
     for _ in range(random_.randint(0, most)):
         kind = random_.choice(kinds)
@@ -235,22 +239,32 @@ def run_case(program, case, folder):
         records = [(random_.randrange(2**32), random_.randrange(2**32), len(f) + random_.choice([0, 0, 100]), f) for f in frames_of(random_, chain["nat"])]
         with open(os.path.join(folder, name + ".in.pcap"), "wb") as file:
             file.write(capture(records, random_.choice("<>"), nano))
+        # which may not be seen in what comes of it, nor may the number of workers
+        words["buffers"] = [1, 2, 4, 256][case % 4]
         tenants.append(words)
         mine, line = expected_of(name, chain, records, nano)
         files.update(mine)
         lines += line
     with open(os.path.join(folder, "c.toml"), "w", encoding="ascii") as file:
         file.write("version = 2\ntenant = %s\n" % text_of(tenants))
-    os.mkdir(os.path.join(folder, "out"))
-    run = subprocess.run([program, "inline", "c.toml", "out"], cwd=folder, capture_output=True, text=True, check=False)
+    workers = [1, 2, 4, 16][case // 4 % 4]
+    return (wrong_of([program, "inline"], folder, "out", files, lines)
+            or wrong_of([program, "--workers", str(workers), "run"], folder, "lanes", files, lines))
+
+
+def wrong_of(words, folder, out, files, lines):
+    """What is wrong with the files, the report or the status of a run into a folder of this name."""
+    told = " ".join(words[1:])
+    os.mkdir(os.path.join(folder, out))
+    run = subprocess.run(words + ["c.toml", out], cwd=folder, capture_output=True, text=True, check=False)
     if run.returncode != 0 or run.stdout != lines:
-        return "status %d, told\n%s and should tell\n%s" % (run.returncode, run.stdout, lines)
-    if sorted(os.listdir(os.path.join(folder, "out"))) != sorted(files):
-        return "other files"
+        return "%s: status %d, told\n%s and should tell\n%s" % (told, run.returncode, run.stdout, lines)
+    if sorted(os.listdir(os.path.join(folder, out))) != sorted(files):
+        return told + ": other files"
     for name, content in files.items():
-        with open(os.path.join(folder, "out", name), "rb") as file:
+        with open(os.path.join(folder, out, name), "rb") as file:
             if file.read() != content:
-                return name + " is another"
+                return "%s: %s is another" % (told, name)
     return None
 
 

@@ -382,6 +382,28 @@ def window(stage):
     return treat
 
 
+# SCANS
+
+
+def scan(stage):
+    text, reach = stage["find"], stage["reach"]
+
+    def treat(flow, items, records):
+        streams = {False: Stream(), True: Stream()}
+        passed, dropped = [], []
+        for back, item in items:
+            tcp = tcp_of(item.frame)
+            if tcp is not None:
+                streams[back].take(item.frame, tcp, reach)
+            if tcp is not None and any(text in stream.part(0, stream.ready) for stream in streams.values()):
+                dropped.append("Filter")
+            else:
+                passed.append((back, item))
+        return passed, dropped
+
+    return treat
+
+
 def stage_of(stage, nat):
     kind = stage["stage"]
     if kind == "ttl":
@@ -396,7 +418,7 @@ def stage_of(stage, nat):
         return one_by_one(lambda flow, back, frame: translated(nat, flow, back, frame))
     if kind == "balance":
         return one_by_one(lambda flow, back, frame: balanced(stage, flow, frame))
-    return {"firewall": firewall, "window": window}[kind](stage)
+    return {"firewall": firewall, "window": window, "scan": scan}[kind](stage)
 
 
 # CHAINS
