@@ -1,5 +1,11 @@
-//! What every crate of `bricks` shares: the Internet checksum and its update, the hash of flow keys, the classes of records,
-//! the reasons of drops, want of memory, names, lists of numbers, decimal numbers in a text, and the trait of protocol layers.
+//! What every crate of `bricks` shares: the Internet checksum and its update, the hash of flow keys, the classes of
+//! records, the reasons of drops, want of memory, names, lists of numbers, decimal numbers in a text, and the trait
+//! of protocol layers.
+//!
+//! It stands on `brick_spec` alone, whose modules `Checksum`, `Hash` and `Decimal` define what the functions here
+//! compute: their contracts are those definitions. What a prefix is, and which type of the code stands for which of
+//! the definitions, is said in `specs/`. The trait `Proto` carries the laws of a protocol layer as ghost members, and
+//! whatever is generic over it rests on them alone.
 #![tactic(auto)]
 
 mod addresses;

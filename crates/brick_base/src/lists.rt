@@ -5,7 +5,7 @@ ghost use Rattle.std.specs.Prelude.{◌≡◌};
 use std::marker::Model;
 
 /// A list of numbers of 32 bits, seen by contracts as that list.
-#[derive(Drop)]
+#[derive(Debug, Drop)]
 pub struct Numbers {
     list: Vec<u32>,
 }
@@ -38,5 +38,23 @@ impl Numbers {
         ensures { result.items ≡ self }
     {
         self.list
+    }
+}
+
+/// As `of`.
+impl From<Vec<u32>> for Numbers {
+    ghost from_gives = { λ list numbers. numbers ≡ list.items };
+
+    fn from(list: Vec<u32>) -> Numbers {
+        Numbers::of(list)
+    }
+}
+
+/// As `into_vec`.
+impl From<Numbers> for Vec<u32> {
+    ghost from_gives = { λ numbers list. list.items ≡ numbers };
+
+    fn from(numbers: Numbers) -> Vec<u32> {
+        numbers.into_vec()
     }
 }
