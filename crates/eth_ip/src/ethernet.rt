@@ -130,7 +130,7 @@ impl<'a> EthView<'a> {
 }
 
 /// An Ethernet II header, for reading and writing.
-#[derive(Drop)]
+#[derive(Debug, Drop)]
 pub struct EthMut<'a> {
     /// The 14 bytes of the header.
     pub header: &'a mut [u8],

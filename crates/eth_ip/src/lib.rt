@@ -1,7 +1,10 @@
 //! Ethernet II and IPv4: the two layers of a frame, and views of their headers.
 //!
-//! A header is a slice that the caller holds. A view reads it in place, and an edit changes the bytes of a field and of the
-//! IPv4 header checksum, and no other. What a view does, a function over the slice does too.
+//! A header is a slice that the caller holds. A view reads it in place, and an edit changes the bytes of a field and
+//! of the IPv4 header checksum, and no other. What a view does, a function over the slice does too. The crate stands
+//! on `brick_base`, and on `brick_spec`, whose modules `Layer`, `Header` and `Edit` define layers, fields and edits
+//! (RFC 894; RFC 791, section 3.1); the laws of the two layers and of edits under a checksum stand in `specs/`. Each
+//! setter's contract is its edit of the whole header, and `edits_keep_right` says that a right checksum stays right.
 #![tactic(auto)]
 
 mod ethernet;

@@ -110,7 +110,7 @@ impl<'a> Ip4View<'a> {
 }
 
 /// An IPv4 header, for reading and writing.
-#[derive(Drop)]
+#[derive(Debug, Drop)]
 pub struct Ip4Mut<'a> {
     /// The bytes of the header, at least 20 and an even number.
     pub header: &'a mut [u8],

@@ -19,6 +19,7 @@ use crate::search::{class_with, find, goes_out};
 use brick_base::{Class, Dir, NoMemory};
 use std::alloc::Global;
 use std::collections::BTreeMap;
+use std::fmt;
 use std::marker::Model;
 use tcp_udp::Tuple;
 
@@ -47,6 +48,17 @@ impl Model for Classifier {
     ghost view = { λ c. record { plan = option_map plan_view c.plan; known = record { flows = map opened_view c.flows.items; records = c.records } } };
 
     ghost invariant = { λ c. AreMaps (map opened_view c.flows.items) c.keys c.other c.ranks.items c.records };
+}
+
+/// The plan, and how many records came and opened flows; not the flows.
+impl fmt::Debug for Classifier {
+    fn fmt<W: fmt::Write>(&self, f: &mut fmt::Formatter<W>) -> fmt::Result {
+        f.debug_struct("Classifier")
+            .field("plan", &self.plan)
+            .field("records", &self.records)
+            .field("flows", &self.flows.len())
+            .finish_non_exhaustive()
+    }
 }
 
 impl Classifier {

@@ -1,5 +1,5 @@
 /// What is known of a packet beside its frame.
-#[derive(Clone, Copy, Default)]
+#[derive(Clone, Copy, Debug, Default)]
 pub(crate) struct Meta {
     /// The number of the record that it comes from.
     pub(crate) a: u64,

@@ -11,6 +11,7 @@ use crate::place::Place;
 use brick_base::{NoMemory, Proto, Raw};
 use pcap_io::{Entry, Frame, Item};
 use std::alloc::Global;
+use std::fmt;
 use std::marker::{Model, PhantomData};
 
 /// A frame in a buffer of its own, with its key, its times and its length on the link, read up to the layer `P`. The bytes of
@@ -30,6 +31,17 @@ impl<P: Proto> Model for Packet<P> {
     ghost view = { λ p. packet_in p.block.value };
 
     ghost invariant = { λ p. IsSound P.DEPTH p.block.value };
+}
+
+/// The key, the slot of its buffer and the length of the frame, and not its bytes.
+impl<P: Proto> fmt::Debug for Packet<P> {
+    fn fmt<W: fmt::Write>(&self, f: &mut fmt::Formatter<W>) -> fmt::Result {
+        f.debug_struct("Packet")
+            .field("key", &self.key())
+            .field("slot", &self.slot())
+            .field("len", &self.block.len)
+            .finish_non_exhaustive()
+    }
 }
 
 /// Makes bytes long enough for `len` bytes, for which there is memory.

@@ -9,6 +9,7 @@ use crate::number::Order;
 use crate::record::{Stuck, record_at_front, record_size};
 use crate::{CaptureFault, Entry};
 use std::alloc::Global;
+use std::fmt;
 use std::marker::Model;
 
 /// The fault of a record of a number, counted from 0, whose first byte has this place behind the file header.
@@ -73,6 +74,17 @@ impl Model for Capture {
     ghost view = { λ c. record { nano = c.nano; entries = entries_at (order_view c.order) (drop 24 c.bytes.items) c.places.items } };
 
     ghost invariant = { λ c. (24 ≤ length c.bytes.items) × ArePlaces (order_view c.order) (drop 24 c.bytes.items) c.places.items };
+}
+
+/// The number of records, the resolution and the byte order; not the frames.
+impl fmt::Debug for Capture {
+    fn fmt<W: fmt::Write>(&self, f: &mut fmt::Formatter<W>) -> fmt::Result {
+        f.debug_struct("Capture")
+            .field("count", &self.places.len())
+            .field("nano", &self.nano)
+            .field("order", &self.order)
+            .finish_non_exhaustive()
+    }
 }
 
 impl Capture {

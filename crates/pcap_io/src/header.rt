@@ -21,7 +21,7 @@ const NANOSECONDS: u32 = 0xa1b2_3c4d;
 const ETHERNET: u32 = 1;
 
 /// How the records of a capture are read: the byte order of their numbers, and whether their fractions are nanoseconds.
-#[derive(Clone, Copy)]
+#[derive(Clone, Copy, Debug)]
 pub struct Form {
     pub order: Order,
     pub nano: bool,

@@ -40,6 +40,24 @@ impl Frame {
     }
 }
 
+/// As `of`.
+impl From<Vec<u8>> for Frame {
+    ghost from_gives = { λ list frame. frame ≡ list.items };
+
+    fn from(list: Vec<u8>) -> Frame {
+        Frame::of(list)
+    }
+}
+
+/// As `into_vec`.
+impl From<Frame> for Vec<u8> {
+    ghost from_gives = { λ frame list. list.items ≡ frame };
+
+    fn from(frame: Frame) -> Vec<u8> {
+        frame.into_vec()
+    }
+}
+
 /// A frame with its key, its time and its length on the link: what a chain is given for a record, and what it gives.
 /// The key is `a` and then `j`; items stand in the order of their keys.
 #[derive(Drop, Debug)]
@@ -94,5 +112,23 @@ impl Items {
     {
         let Items { list } = self;
         list
+    }
+}
+
+/// As `of`.
+impl From<Vec<Item>> for Items {
+    ghost from_gives = { λ list items. items ≡ list.items };
+
+    fn from(list: Vec<Item>) -> Items {
+        Items::of(list)
+    }
+}
+
+/// As `into_vec`.
+impl From<Items> for Vec<Item> {
+    ghost from_gives = { λ items list. list.items ≡ items };
+
+    fn from(items: Items) -> Vec<Item> {
+        items.into_vec()
     }
 }

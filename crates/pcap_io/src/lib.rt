@@ -1,8 +1,11 @@
-//! Captures in the classic pcap file format, version 2.4, with link type 1 (Ethernet): a reader, a writer, and the items that
-//! stand between them.
+//! Captures in the classic pcap file format, version 2.4, with link type 1 (Ethernet): a reader, a writer, and the
+//! items that stand between them.
 //!
-//! The format is that of the Internet draft "PCAP Capture File Format" (draft-ietf-opsawg-pcap), its file header and its packet
-//! record. What a capture is stands in `brick_spec`, modules `Capture`, `CaptureFault` and `Item`.
+//! The format is that of the Internet draft "PCAP Capture File Format" (draft-ietf-opsawg-pcap), its file header and
+//! its packet record. The crate stands on `brick_base`, and on `brick_spec`, whose modules `Capture`, `CaptureFault`
+//! and `Item` say what a capture is, why bytes are none, and what is written of items. How the reader takes bytes
+//! apart, and the laws of capture text, stand in `specs/`. The contracts of `Capture::read` and of `Writer` carry the
+//! promise; `written_is_capture` joins the two.
 #![tactic(auto)]
 
 mod capture;

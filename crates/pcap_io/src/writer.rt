@@ -11,6 +11,7 @@ use crate::record::{HEAD, LONGEST};
 use brick_base::NoMemory;
 use byteorder::{ByteOrder, LittleEndian};
 use std::alloc::Global;
+use std::fmt;
 use std::marker::Model;
 
 /// The text of a capture, as it grows: little-endian, version 2.4, zone 0, accuracy 0, snapshot length 262,144, link type 1.
@@ -25,6 +26,15 @@ impl Model for Writer {
     ghost Value = { List ℕ };
 
     ghost view = { λ w. w.bytes.items };
+}
+
+/// The number of bytes so far, and not the bytes.
+impl fmt::Debug for Writer {
+    fn fmt<W: fmt::Write>(&self, f: &mut fmt::Formatter<W>) -> fmt::Result {
+        f.debug_struct("Writer")
+            .field("len", &self.bytes.len())
+            .finish_non_exhaustive()
+    }
 }
 
 /// The file header of a capture that is written, whose fractions are nanoseconds or else microseconds.

@@ -1,8 +1,12 @@
-//! TCP and UDP: the two layers in the payload of IPv4, views of their headers, the five-tuple of a frame, what a match asks of it,
-//! and whether a frame's transport checksum is right.
+//! TCP and UDP: the two layers in the payload of IPv4, views of their headers, the five-tuple of a frame, what a
+//! match asks of it, and whether a frame's transport checksum is right.
 //!
-//! A header is a slice that the caller holds. A view reads it in place, and an edit changes the bytes of a field and of the
-//! checksum, and no other. What a view does, a function over the slice does too.
+//! A header is a slice that the caller holds. A view reads it in place, and an edit changes the bytes of a field and
+//! of the checksum, and no other. What a view does, a function over the slice does too. The crate stands on `eth_ip`
+//! and `packet_owner`, and on `brick_spec`, whose modules `Layer`, `Edit`, `Tuple`, `Match` and `Transport` define
+//! what it reads and changes (RFC 793, section 3.1; RFC 768); where headers stand in a frame, and the laws, are in
+//! `specs/`. The contracts of the setters, of `Tuple::read`, `Match::meets` and `transport_ok` are those definitions,
+//! and `transport_edits_keep_right` says that a right checksum stays right.
 #![tactic(auto)]
 
 mod datagram;

@@ -152,7 +152,7 @@ impl<'a> TcpView<'a> {
 }
 
 /// A TCP header, for reading and writing.
-#[derive(Drop)]
+#[derive(Debug, Drop)]
 pub struct TcpMut<'a> {
     /// The bytes of the header, at least 20.
     pub header: &'a mut [u8],

@@ -140,7 +140,7 @@ impl<'a> UdpView<'a> {
 }
 
 /// A UDP header, for reading and writing.
-#[derive(Drop)]
+#[derive(Debug, Drop)]
 pub struct UdpMut<'a> {
     /// The bytes of the header, at least 8.
     pub header: &'a mut [u8],
