@@ -14,7 +14,7 @@ use brick_base::Name;
 use flow_key::NatPlan;
 
 /// What an accepted chain file says of a tenant.
-#[derive(Drop)]
+#[derive(Debug, Drop)]
 pub struct Chain {
     pub name: Name,
     /// The name of its capture in the store, 1 to 255 bytes.

@@ -12,7 +12,7 @@ use brick_base::Name;
 use tcp_udp::Match;
 
 /// A group of a tenant: what it takes, and where it leads.
-#[derive(Drop)]
+#[derive(Debug, Drop)]
 pub struct Group {
     pub name: Name,
     /// None takes every frame.

@@ -10,7 +10,7 @@ use brick_base::Name;
 use tcp_udp::Match;
 
 /// A group in a group: what it takes, and where it leads.
-#[derive(Drop)]
+#[derive(Debug, Drop)]
 pub struct Leaf {
     pub name: Name,
     /// None takes every frame.
@@ -24,7 +24,7 @@ pub struct Leaf {
 }
 
 /// What stands behind a group's stages.
-#[derive(Drop)]
+#[derive(Debug, Drop)]
 pub enum Below {
     /// The place of its output among the chain's outputs.
     Output(u32),

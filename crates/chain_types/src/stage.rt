@@ -6,7 +6,7 @@ use std::sync::Arc;
 use tcp_udp::Match;
 
 /// A server that gets flows.
-#[derive(Drop)]
+#[derive(Debug, Drop)]
 pub struct Backend {
     /// The name, on which its places in the table hang: 1 to 32 characters.
     pub name: Name,
@@ -15,7 +15,7 @@ pub struct Backend {
 }
 
 /// Other backends, for the flows that are opened from a record on.
-#[derive(Drop)]
+#[derive(Debug, Drop)]
 pub struct Change {
     /// The number of that record, counted from 0.
     pub from: u32,
@@ -24,7 +24,7 @@ pub struct Change {
 }
 
 /// A stage: what is done with an IPv4 frame.
-#[derive(Drop)]
+#[derive(Debug, Drop)]
 pub enum Stage {
     /// Drops a time to live of 0 or 1, and takes 1 from any other (RFC 791, section 3.1).
     Ttl,

@@ -20,7 +20,7 @@ use read_row::{ReadPacket, TreatRead, treat_packet};
 use std::alloc::Global;
 
 /// Sends each flow to the backend that the balance table of its epoch has for the hash of its key: the epoch in which it was opened.
-#[derive(Drop)]
+#[derive(Debug, Drop)]
 pub struct BalanceStage {
     /// Which backend a flow goes to.
     pub epochs: Epochs,

@@ -17,7 +17,7 @@ use read_row::{ReadPacket, TreatRead, treat_packet};
 use std::sync::Arc;
 
 /// Forwards each packet to the next hop of the longest prefix that contains its destination.
-#[derive(Drop)]
+#[derive(Debug, Drop)]
 pub struct RouteStage {
     /// The rows, which stages share.
     pub routes: Arc<Routes>,

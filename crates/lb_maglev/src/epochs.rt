@@ -22,7 +22,7 @@ pub struct Epoch {
 }
 
 /// The balance tables of 1 to 16 epochs. Contracts see where each epoch begins, and its table.
-#[derive(Drop)]
+#[derive(Debug, Drop)]
 pub struct Epochs {
     begins: Vec<u32>,
     tables: Vec<Maglev>,

@@ -13,7 +13,7 @@ use std::marker::Model;
 pub const PLACES: usize = 251;
 
 /// A balance table. Contracts see the backend of each place, by its number in the list of names.
-#[derive(Drop)]
+#[derive(Debug, Drop)]
 pub struct Maglev {
     backends: Vec<u8>,
 }

@@ -10,7 +10,7 @@ use brick_base::{Name, NoMemory};
 use std::alloc::Global;
 
 /// How a backend goes over the places in the order of its preference.
-#[derive(Clone, Copy)]
+#[derive(Clone, Copy, Debug)]
 pub struct Walk {
     /// The place that it prefers to all others.
     offset: usize,

@@ -9,7 +9,7 @@ use std::collections::BTreeSet;
 use std::marker::Model;
 
 /// The set of the flows of which a forward item was allowed.
-#[derive(Drop)]
+#[derive(Debug, Drop)]
 pub struct Established {
     flows: BTreeSet<u32>,
 }

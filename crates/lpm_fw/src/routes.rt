@@ -10,6 +10,7 @@ ghost use Rattle.lpm_fw.specs.declared.routes.RouteFault.TheVariants.{NoMemory};
 use crate::cells::{Unbuilt, fill, look_up};
 use crate::faults::check;
 use std::alloc::Global;
+use std::fmt;
 use std::marker::Model;
 use thiserror::Error;
 
@@ -57,6 +58,15 @@ impl Model for Routes {
     ghost view = { λ r. r.rows.items };
 
     ghost invariant = { λ r. IsTable r.rows.items r.root.items r.blocks.items };
+}
+
+/// The rows, and not the cells that are made of them.
+impl fmt::Debug for Routes {
+    fn fmt<W: fmt::Write>(&self, f: &mut fmt::Formatter<W>) -> fmt::Result {
+        f.debug_struct("Routes")
+            .field("rows", &self.rows)
+            .finish_non_exhaustive()
+    }
 }
 
 impl Routes {

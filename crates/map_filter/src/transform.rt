@@ -13,6 +13,7 @@ use brick_base::{Class, NoMemory, Raw};
 use eth_ip::{Ip4, Ip4Mut};
 use packet_owner::Packet;
 use read_row::{close_ip4, read_ip4};
+use std::fmt;
 
 /// Lets a closure edit a header.
 fn call<F: Fn(&mut Ip4Mut<'_>)>(f: &F, ip4: &mut Ip4Mut<'_>)
@@ -67,6 +68,13 @@ fn edit_ip4<F: Fn(&mut Ip4Mut<'_>)>(f: &F, packet: Packet<Raw>) -> Packet<Raw>
 #[derive(Drop)]
 pub struct Transform<F> {
     f: F,
+}
+
+/// Its name alone: a closure shows nothing.
+impl<F> fmt::Debug for Transform<F> {
+    fn fmt<W: fmt::Write>(&self, f: &mut fmt::Formatter<W>) -> fmt::Result {
+        f.debug_struct("Transform").finish_non_exhaustive()
+    }
 }
 
 impl<F> Transform<F> {

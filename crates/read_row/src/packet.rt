@@ -15,7 +15,7 @@ use tcp_udp::Tuple;
 
 /// A packet whose Ethernet and IPv4 headers were read, and its five-tuple, where one was asked for. Who changes the addresses, the
 /// protocol or the ports of the packet forgets the five-tuple.
-#[derive(Drop)]
+#[derive(Debug, Drop)]
 pub struct ReadPacket {
     /// The packet.
     pub packet: Packet<Ip4>,

@@ -77,7 +77,7 @@ fn is_lost(treated: &Result<Packet<Raw>, Dropped>) -> bool
 }
 
 /// Stages in a row: what one passes comes to the next, at once.
-#[derive(Drop)]
+#[derive(Debug, Drop)]
 pub struct ReadRow<S> {
     /// The stages, in order.
     pub stages: Vec<S>,

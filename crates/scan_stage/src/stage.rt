@@ -14,6 +14,7 @@ use packet_owner::Packet;
 use read_row::{ReadPacket, TreatRead, treat_packet};
 use std::alloc::Global;
 use std::collections::BTreeMap;
+use std::fmt;
 use window_stream::Segment;
 
 /// Drops the TCP segments of a flow once the bytes in order of one of its two streams contain the text, that of the segment with it. A payload that
@@ -32,6 +33,17 @@ pub struct ScanStage {
     pub ghost within: { (1460 ≤ reach) × (reach ≤ 1048576) },
     // each scan is of this text and this reach
     pub ghost kinds: { (q : ℕ) (s : FlowScans) → get nat_cmp scans q ≡ Some s → AreOf text.items reach s },
+}
+
+/// Its text, its reach, and whether it failed; not what it keeps of flows.
+impl fmt::Debug for ScanStage {
+    fn fmt<W: fmt::Write>(&self, f: &mut fmt::Formatter<W>) -> fmt::Result {
+        f.debug_struct("ScanStage")
+            .field("text", &self.text)
+            .field("reach", &self.reach)
+            .field("failed", &self.failed)
+            .finish_non_exhaustive()
+    }
 }
 
 impl ScanStage {

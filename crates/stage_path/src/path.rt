@@ -7,7 +7,7 @@ use read_row::{ReadRow, TreatRead};
 use std::alloc::Global;
 
 /// A row of stages, and an operator behind it.
-#[derive(Drop)]
+#[derive(Debug, Drop)]
 pub struct Path<S, B> {
     /// The stages.
     pub before: ReadRow<S>,

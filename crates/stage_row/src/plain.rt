@@ -7,7 +7,7 @@ use read_row::{ReadPacket, ReadRow, TreatRead, treat_packet};
 use scan_stage::ScanStage;
 
 /// A stage that is chosen when the program runs, and makes at most one packet of a packet.
-#[derive(Drop)]
+#[derive(Debug, Drop)]
 pub enum PlainStage {
     /// Drops what has no IPv4 layer.
     Parsed(ParsedStage),

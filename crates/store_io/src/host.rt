@@ -8,7 +8,7 @@ use crate::{IoFault, Sink, Store};
 use std::fs::OpenOptions;
 use std::io::{ErrorKind, Read, Seek, SeekFrom, Write};
 use std::rt::Files;
-use std::{fs, io};
+use std::{fmt, fs, io};
 
 const ACCOUNTS: usize = 34;
 
@@ -104,6 +104,15 @@ pub struct FileStore<R: Files + Drop> {
     counts: [u64; ACCOUNTS],
 }
 
+/// The counts of faults.
+impl<R: Files + Drop> fmt::Debug for FileStore<R> {
+    fn fmt<W: fmt::Write>(&self, f: &mut fmt::Formatter<W>) -> fmt::Result {
+        f.debug_struct("FileStore")
+            .field("counts", &self.counts)
+            .finish_non_exhaustive()
+    }
+}
+
 impl<R: Files + Drop> FileStore<R> {
     ghost use Rattle.store_io.specs.FileStore.{file_faults};
 
@@ -184,6 +193,15 @@ impl<R: Files + Drop> Store for FileStore<R> {
 pub struct OutSink<R: Print + Drop> {
     rt: R,
     faults: u64,
+}
+
+/// The count of faults.
+impl<R: Print + Drop> fmt::Debug for OutSink<R> {
+    fn fmt<W: fmt::Write>(&self, f: &mut fmt::Formatter<W>) -> fmt::Result {
+        f.debug_struct("OutSink")
+            .field("faults", &self.faults)
+            .finish_non_exhaustive()
+    }
 }
 
 impl<R: Print + Drop> OutSink<R> {

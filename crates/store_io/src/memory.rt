@@ -90,7 +90,7 @@ fn give(bytes: &[u8], at: u64, into: &mut [u8]) -> usize
 }
 
 /// Files in memory. Its calls are numbered from 0, and those whose numbers were listed fail.
-#[derive(Drop)]
+#[derive(Debug, Drop)]
 pub struct MemStore {
     alloc: Global,
     files: Vec<(String, Vec<u8>)>,

@@ -7,7 +7,7 @@ use crate::{IoFault, Sink};
 use std::alloc::Global;
 
 /// A sink in memory. Its writes are numbered from 0, and those whose numbers were listed fail.
-#[derive(Drop)]
+#[derive(Debug, Drop)]
 pub struct MemSink {
     bytes: Vec<u8>,
     fails: Vec<u32>,

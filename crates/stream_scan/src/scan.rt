@@ -19,7 +19,7 @@ use window_stream::{Segment, Stream};
 const WINDOW: u32 = 1460;
 
 /// One direction of one flow: whether its bytes in order contain a text, the needle.
-#[derive(Drop)]
+#[derive(Debug, Drop)]
 pub struct Scan {
     search: Search,
     stream: Stream,

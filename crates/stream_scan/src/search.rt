@@ -8,7 +8,7 @@ use arrayvec::ArrayVec;
 use memchr::memmem;
 
 /// What is known of the bytes that were searched: how many they are, the last of them, and where the needle first stands.
-#[derive(Drop)]
+#[derive(Debug, Drop)]
 pub(crate) struct Search {
     pub(crate) needle: ArrayVec<u8, 64>,
     /// One byte less than the needle has, or all where they are fewer.

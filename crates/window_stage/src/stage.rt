@@ -8,6 +8,7 @@ use batch_ops::{Operator, Outlet, Staged};
 use brick_base::{Class, NoMemory, Raw};
 use packet_owner::Packet;
 use std::alloc::Global;
+use std::fmt;
 
 /// Of each direction of each flow, passes the bytes of its TCP stream in order, in windows of `size` bytes, in place of
 /// the segments that they came in. A payload that ends more than `reach` bytes past the bytes in order is dropped.
@@ -22,6 +23,17 @@ pub struct WindowStage {
     pub ghost windows: { (64 ≤ size) × (size ≤ 1460) },
     pub ghost within: { (1460 ≤ reach) × (reach ≤ 1048576) },
     pub ghost same: { (flows.size ≡ size) × (flows.reach ≡ reach) },
+}
+
+/// Its windows, its reach, and whether it failed; not what it keeps of flows.
+impl fmt::Debug for WindowStage {
+    fn fmt<W: fmt::Write>(&self, f: &mut fmt::Formatter<W>) -> fmt::Result {
+        f.debug_struct("WindowStage")
+            .field("size", &self.size)
+            .field("reach", &self.reach)
+            .field("failed", &self.failed)
+            .finish_non_exhaustive()
+    }
 }
 
 impl WindowStage {
