@@ -1,10 +1,14 @@
 //! `bricks`: chains of packet functions over captures in the classic pcap format.
 //!
-//! `bricks [--workers N] run CHAINS OUT` runs the tenants of the chain file CHAINS and writes their files into the folder OUT: each
-//! tenant over a lane of its own, with N workers, which is 1 to 16 and 1 where it is not said. `bricks [--workers N] inline CHAINS OUT`
-//! does the same without lanes, and `bricks [--workers N] check CHAINS OUT` reads the chain file alone. `bricks [--workers N] gen NUMBER OUT`
-//! makes a capture of the number and a chain file, writes them into OUT, and runs them without lanes. What these promise is the contract of
-//! `run::run_words`, in the words of the crate `run_spec`.
+//! `bricks [--workers N] run CHAINS OUT` runs the tenants of the chain file CHAINS and writes their files into the
+//! folder OUT: each tenant over a lane of its own, with N workers, which is 1 to 16 and 1 where it is not said.
+//! `bricks [--workers N] inline CHAINS OUT` does the same without lanes, and `bricks [--workers N] check CHAINS OUT`
+//! reads the chain file alone. `bricks [--workers N] gen NUMBER OUT` makes a capture of the number and a chain file,
+//! writes them into OUT, and runs them without lanes.
+//!
+//! The crate stands on `command_line` for the words, on `lane_runs`, `tenant_files` and `generated_files` for the
+//! runs, and on `run_report` for what is told. What a run promises is defined in `run_spec`, and which promise a line
+//! of the command has, in `specs/`. The contract of `run::run_words` carries all promises.
 #![tactic(auto)]
 
 ghost use Rattle.std.specs.Prelude.{◌≡◌};

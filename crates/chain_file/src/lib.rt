@@ -1,4 +1,9 @@
 //! Chain files: the chains that one gives, or its first fault.
+//!
+//! The crate stands on `chain_text` and `stage_text` for the tables of a file and on `chain_types` for chains. What a
+//! chain file gives is defined in `chain_spec`, modules `ChainWalk` and `ChainSet`; `specs/` says which value of the
+//! code is which of the definitions. The contract of `ChainSet::read` carries the promise: the definition's chains,
+//! or its first fault.
 #![tactic(auto)]
 
 mod below;

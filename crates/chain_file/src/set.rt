@@ -16,7 +16,7 @@ use std::alloc::Global;
 use std::marker::Model;
 
 /// The chains of an accepted chain file: 1 to 16, one for each tenant. Contracts see the list of them.
-#[derive(Drop)]
+#[derive(Debug, Drop)]
 pub struct ChainSet {
     chains: Vec<Chain>,
 }

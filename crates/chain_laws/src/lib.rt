@@ -1,5 +1,8 @@
-//! Laws of the definitions of chains, each the contract of a function with an empty body: of accepted chain files, and
-//! of what a chain leaves of a capture.
+//! Laws of the definitions of chains, each the contract of a function with an empty body: of accepted chain files,
+//! and of what a chain leaves of a capture.
+//!
+//! The crate stands on `chain_spec`, `tenant_spec` and `run_spec`. Each law is stated in `specs/`: `Right` and
+//! `Files` of accepted chain files, `Keys`, `Counts` and `SharedRest` of what a chain leaves.
 #![tactic(auto)]
 
 ghost use Rattle.chain_laws.specs.Files.{FilesAreDistinct};

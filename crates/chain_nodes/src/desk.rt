@@ -13,7 +13,7 @@ use packet_owner::Packet;
 use work_core::Returned;
 
 /// Where packets come to rest: the outlet that they go through, the counts of those that were dropped, and the buffers that go back.
-#[derive(Drop)]
+#[derive(Debug, Drop)]
 pub struct Desk {
     /// The outlet, with the spare buffers.
     pub out: Outlet,

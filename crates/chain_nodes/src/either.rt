@@ -8,7 +8,7 @@ use pcap_io::Items;
 use std::alloc::Global;
 
 /// A place of one kind or of another.
-#[derive(Drop)]
+#[derive(Debug, Drop)]
 pub enum Either<A: Node, B: Node> {
     First(A),
     Second(B),

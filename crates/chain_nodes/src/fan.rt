@@ -11,7 +11,7 @@ use pcap_io::Items;
 use std::alloc::Global;
 
 /// Groups beside one another: a packet goes to the first that takes it.
-#[derive(Drop)]
+#[derive(Debug, Drop)]
 pub struct Fan<N: Node> {
     /// Which packets each group takes.
     pub groups: Groups,

@@ -7,7 +7,7 @@ ghost use Rattle.chain_nodes.specs.Flows.{AreSeen, flows_in};
 use brick_base::{Class, NoMemory};
 
 /// The flows of which packets came, each once, in the order in which they came first.
-#[derive(Drop)]
+#[derive(Debug, Drop)]
 pub struct Flows {
     /// Whether the flow of each number is there; those behind the last are not.
     pub seen: Vec<bool>,

@@ -13,7 +13,7 @@ use std::alloc::Global;
 use work_core::sort_items;
 
 /// The items of a leaf group, in the order in which they came.
-#[derive(Drop)]
+#[derive(Debug, Drop)]
 pub struct LeafList {
     pub items: Vec<Item>,
 }

@@ -57,7 +57,7 @@ fn pass_on<N: Node>(
 }
 
 /// A row of stages, and a place behind it.
-#[derive(Drop)]
+#[derive(Debug, Drop)]
 pub struct Pipe<P: Staged + Drop, N: Node> {
     pub path: P,
     pub next: N,

@@ -17,7 +17,7 @@ use std::mem::replace;
 use work_core::{Returned, WorkResult};
 
 /// A tenant's chain at work, with all that came of its flows.
-#[derive(Drop)]
+#[derive(Debug, Drop)]
 pub struct NodeWork<N: Node> {
     /// The chain: its first stages, and all that is behind them.
     pub root: N,

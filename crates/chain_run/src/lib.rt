@@ -1,4 +1,9 @@
 //! A tenant's work: its chain as places, which are its stages, its groups, and groups in these.
+//!
+//! The crate stands on `chain_nodes` for places, and on `stage_row`, `stage_path` and `window_stage` for paths. What
+//! a chain means is defined in `tenant_spec`, module `ChainPlan`; what is built of it, in `specs/`. The contract of
+//! `TenantWork::of_chain` carries the promise: the work follows the plan of its chain, and keeps the contracts of
+//! `ChainWork` and `NewWork`.
 #![tactic(auto)]
 
 mod below;

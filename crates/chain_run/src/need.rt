@@ -12,7 +12,7 @@ ghost use Rattle.chain_run.specs.Sound.{WindowFits, WindowsFit, LeafFits, BelowF
 use chain_types::{Below, Chain, Group, Leaf, Stage};
 
 /// How many spare buffers, and how many bytes each.
-#[derive(Clone, Copy, Drop)]
+#[derive(Clone, Copy, Debug, Drop)]
 pub struct Need {
     /// At most 16,385.
     pub count: u32,

@@ -14,7 +14,7 @@ use flow_key::NatPlan;
 use std::alloc::Global;
 
 /// What the paths of a chain have in common.
-#[derive(Clone, Copy, Drop)]
+#[derive(Clone, Copy, Debug, Drop)]
 pub struct Site {
     /// How addresses are translated.
     pub nat: Option<NatPlan>,

@@ -16,7 +16,7 @@ use std::alloc::Global;
 use work_core::{ChainWork, NewWork, Returned, WorkResult};
 
 /// A tenant's chain at work, over paths of one kind.
-#[derive(Drop)]
+#[derive(Debug, Drop)]
 pub struct TreeWork<P: StagesPath> {
     work: NodeWork<
         Pipe<

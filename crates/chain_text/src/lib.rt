@@ -1,4 +1,9 @@
 //! The faults of a chain file, and the fields of its tables.
+//!
+//! The crate stands on `brick_base` and `lpm_fw` for what fields give, and on `toml` for the text. Each
+//! field is defined in `chain_spec`, modules `Fields` and `ChainText`, and each fault in `ChainFault`; `specs/` says
+//! what it is to give what a definition reads. Each reader's contract is the definition of its name, and that of
+//! `fault_text` is the line of a fault.
 #![tactic(auto)]
 
 mod addresses;

@@ -1,4 +1,8 @@
 //! The words that the program is called with: `bricks [--workers N] MODE CHAINS OUT`, read with `clap`.
+//!
+//! The crate stands on `brick_base`. Which words are a line is defined in `words_spec`, module `AcceptedWords`; which
+//! line of the definitions a value of the code is, and some lines as laws, in `specs/`. The contract of `read_words`
+//! carries the promise: the line that the words are, and none exactly where they are none.
 #![tactic(auto)]
 
 ghost use Rattle.std.specs.Prelude.{◌≡◌, ◌≤◌, IfOk, IfSome, map, option_map, string_bytes};

@@ -23,7 +23,7 @@ use store_io::{IoFault, Store};
 const GENERATING_ACCOUNT: u32 = 33;
 
 /// What the two files say: one tenant's chain, and its capture.
-#[derive(Drop)]
+#[derive(Debug, Drop)]
 pub struct Generated {
     pub chain: Chain,
     pub capture: Capture,

@@ -1,14 +1,14 @@
 //! The steps of a script.
 
 /// One of two workers.
-#[derive(Clone, Copy)]
+#[derive(Clone, Copy, Debug)]
 pub enum Worker {
     First,
     Second,
 }
 
 /// A step, and what it must find.
-#[derive(Clone, Copy)]
+#[derive(Clone, Copy, Debug)]
 pub enum Step {
     /// A claim gives a buffer, in which the next record is sent to this worker.
     To(Worker),
@@ -25,7 +25,7 @@ pub enum Step {
 }
 
 /// How far a script is.
-#[derive(Drop)]
+#[derive(Debug, Drop)]
 pub struct Progress {
     /// The number of the next record.
     pub next: u32,

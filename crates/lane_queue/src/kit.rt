@@ -14,7 +14,7 @@ use std::alloc::Global;
 use std::sync::Wait;
 
 /// Makes lanes on ruled queues. Its calls may wait.
-#[derive(Drop)]
+#[derive(Debug, Drop)]
 pub struct QueueKit {
     books: Vec<Book>,
     open_lanes: usize,

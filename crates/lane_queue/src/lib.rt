@@ -1,5 +1,9 @@
-//! Lanes on ruled queues: a lane's pool is one queue with a place for each of its buffers, and the ring of each worker one with a place
-//! more. A rule of each queue tells its passes what was put and taken. `QueueKit` makes such lanes. Its calls may wait.
+//! Lanes on ruled queues: a lane's pool is one queue with a place for each of its buffers, and the ring of each
+//! worker one with a place more.
+//!
+//! A rule of each queue tells its passes what was put and taken. `QueueKit` makes such lanes. Its calls may wait. The
+//! crate stands on `lane_core`, and on `crossbeam_queue` for the queues. The rules are defined in `specs/`,
+//! modules `PoolRule` and `RingRule`; `QueueKit` keeps the contract of `LaneKit`.
 #![tactic(auto)]
 
 mod kit;

@@ -21,7 +21,7 @@ pub struct RingAbout {
 }
 
 /// What lies in a ring.
-#[derive(Drop)]
+#[derive(Debug, Drop)]
 pub enum Item {
     Packet(Packet<Raw>),
     End,

@@ -10,7 +10,7 @@ use std::alloc::Global;
 use std::sync::Wait;
 
 /// Makes lanes on atomic tables. Its calls do not wait.
-#[derive(Drop)]
+#[derive(Debug, Drop)]
 pub struct TableKit {
     books: Vec<Book>,
     open_lanes: usize,

@@ -1,6 +1,10 @@
-//! Lanes on the atomic table: one table a lane, whose words are the free words of the buffers and the cells of the rings, and whose
-//! slots hold the buffers and packets that nobody holds. `TableKit` makes such lanes. The calls that a `TableLane` itself has do not
-//! wait and take no memory. The laws say that between any two steps the table shows a lawful lane, and which event each step is.
+//! Lanes on the atomic table: one table a lane, whose words are the free words of the buffers and the cells of the
+//! rings, and whose slots hold the buffers and packets that nobody holds.
+//!
+//! `TableKit` makes such lanes. The calls that a `TableLane` itself has do not wait and take no memory. The crate
+//! stands on `lane_core`, and on `atomic_table` for the steps. The rule of a table, and the state of the
+//! lane machine that it shows, are defined in `specs/`, modules `Rule` and `Shown`. The laws say that between any two
+//! steps the table shows a lawful lane, and which event each step is; `TableKit` keeps the contract of `LaneKit`.
 #![tactic(auto)]
 
 mod calls;

@@ -6,7 +6,7 @@ use std::collections::LinkedList;
 use std::snapshot::Snapshot;
 
 /// What a slot holds.
-#[derive(Drop)]
+#[derive(Debug, Drop)]
 pub enum Stored {
     /// Its buffer is with a seat.
     Empty,

@@ -1,5 +1,9 @@
-//! The library by an example: `library_example` reads the capture `in.pcap`, keeps its UDP datagrams, marks each with another
-//! type of service, and writes them as the capture `out.pcap`.
+//! The library by an example: `library_example` reads the capture `in.pcap`, keeps its UDP datagrams, marks each with
+//! another type of service, and writes them as the capture `out.pcap`.
+//!
+//! It stands on `map_filter` for the two stages, on `batch_ops` for batches, on `flow_key` and `pcap_io` for captures
+//! and on `store_files` for files. It has no definitions: what the stages make of a packet is the contract of
+//! `map_filter`, and what becomes of a batch that of `batch_ops::run`.
 #![tactic(auto)]
 
 ghost use Rattle.std.specs.Prelude.{◌≡◌, ◌<◌, length};

@@ -1,8 +1,10 @@
-//! The worst order of segments for a stream, and for a scan of one: gaps of one byte, left open and then closed from the front, one by
-//! one.
+//! The worst order of segments for a stream, and for a scan of one: gaps of one byte, left open and then closed from
+//! the front, one by one.
 //!
-//! `stream_growth GAPS` prints how many positions are then in order, and `stream_growth GAPS scan` where a text stands that is not in the
-//! bytes. It is there so that its instructions can be counted for more and more gaps: they grow as the gaps do.
+//! `stream_growth GAPS` prints how many positions are then in order, and `stream_growth GAPS scan` where a text
+//! stands that is not in the bytes. It is there so that its instructions can be counted for more and more gaps: they
+//! grow as the gaps do. It stands on `window_stream` and `stream_scan`, whose contracts say which bytes are in order
+//! and where the text stands; it has no definitions.
 #![tactic(auto)]
 
 use brick_base::NoMemory;

@@ -18,7 +18,7 @@ use store_io::Store;
 const LONGEST_CAPTURE: usize = 33554432;
 
 /// What reading a tenant's capture gave.
-#[derive(Drop)]
+#[derive(Debug, Drop)]
 pub enum TenantInput {
     /// The capture, whole.
     Whole(Capture),

@@ -18,7 +18,7 @@ use work_core::ChainWork;
 const MOST: usize = 32;
 
 /// A work, and the packets that wait for their turn. Their buffers serve the whole capture.
-#[derive(Drop)]
+#[derive(Debug, Drop)]
 pub struct Turns<W: ChainWork> {
     pub work: W,
     /// The packets that wait.

@@ -1,4 +1,7 @@
 //! Frames on which the tests of several crates stand. Nothing but tests uses them.
+//!
+//! The crate stands on no other, so that the tests of the lowest layer can use it. It has no definitions and promises
+//! nothing: a frame is an array of bytes with a name.
 #![tactic(auto)]
 
 /// UDP from 10.0.0.1:1000 to 10.1.2.3:53 with the payload `ping`. Both checksums are right.

@@ -5,7 +5,7 @@ use chain_types::Chain;
 use pcap_io::{Capture, Items};
 
 /// A tenant's chain, its capture, and the class of each record.
-#[derive(Drop)]
+#[derive(Debug, Drop)]
 pub struct TenantJob {
     pub capture: Capture,
     pub chain: Chain,
@@ -15,7 +15,7 @@ pub struct TenantJob {
 }
 
 /// What became of a tenant's records.
-#[derive(Drop)]
+#[derive(Debug, Drop)]
 pub struct TenantDone {
     /// How many records were accepted.
     pub accepted: u32,

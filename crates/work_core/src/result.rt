@@ -1,7 +1,7 @@
 use pcap_io::Items;
 
 /// What a tenant's work gives.
-#[derive(Drop)]
+#[derive(Debug, Drop)]
 pub struct WorkResult {
     /// The items of each leaf group, in the order of their keys.
     pub groups: Vec<Items>,

@@ -6,7 +6,7 @@ use packet_owner::Buffer;
 use std::marker::Model;
 
 /// At most 32 buffers that go back, in order.
-#[derive(Drop)]
+#[derive(Debug, Drop)]
 pub struct Returned {
     // each place from `front` on has a buffer, and those before were taken out
     buffers: ArrayVec<Option<Buffer>, 32>,

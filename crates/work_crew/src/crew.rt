@@ -21,7 +21,7 @@ use std::thread::Threads;
 use work_core::{ChainWork, TenantJob};
 
 /// The lanes of a crew, the ingest of each, and a row for each: the seats and works of its workers, while these do not work.
-#[derive(Drop)]
+#[derive(Debug, Drop)]
 pub struct Crew<L, I, S, W> {
     pub lanes: Vec<L>,
     pub ingests: Vec<IngestSide<I>>,
@@ -29,7 +29,7 @@ pub struct Crew<L, I, S, W> {
 }
 
 /// What came of a job.
-#[derive(Drop)]
+#[derive(Debug, Drop)]
 pub struct LaneDone<W> {
     /// The numbers of the records that were refused, rising.
     pub refused: Numbers,
@@ -99,7 +99,7 @@ fn keep<W: Drop>(
 }
 
 /// The last lane of a crew, with what belongs to it.
-#[derive(Drop)]
+#[derive(Debug, Drop)]
 pub struct Last<L, I, S, W> {
     pub lane: L,
     pub side: IngestSide<I>,
@@ -203,7 +203,7 @@ fn run_started<K: LaneKit, W: ChainWork, R: Threads + Wait + Sync>(
 }
 
 /// What a crew takes of memory beside its lanes.
-#[derive(Drop)]
+#[derive(Debug, Drop)]
 pub struct Rooms<L, I, S, W> {
     pub crew: Crew<L, I, S, W>,
     pub sides: Vec<Row<S, W>>,

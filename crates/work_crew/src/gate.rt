@@ -16,7 +16,7 @@ const MOST_TURNS: u32 = 50_000_000;
 
 /// A kit round a kit. The send of a lane's second record waits until the first was received, for at most 50,000,000 turns, and then
 /// goes on and counts a miss. Else its lanes are those of the kit.
-#[derive(Drop)]
+#[derive(Debug, Drop)]
 pub struct GateKit<K: LaneKit> {
     pub kit: K,
     /// How many lanes that were shut had a miss, up to 4,294,967,295.
@@ -24,7 +24,7 @@ pub struct GateKit<K: LaneKit> {
 }
 
 /// A lane of the kit, with what its calls tell one another: how many records were sent, and whether one was received.
-#[derive(Drop)]
+#[derive(Debug, Drop)]
 pub struct GateLane<L> {
     pub lane: L,
     sent: AtomicU64,

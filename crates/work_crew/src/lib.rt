@@ -1,4 +1,9 @@
 //! The ingest of each lane, the workers over all lanes, and crews of both, over any kit of lanes and any work.
+//!
+//! The crate stands on `lane_core` for lanes and on `work_core` and `work_parts` for works. The Book of a lane is
+//! defined in `lane_spec`, and what it says of a tenant's records in `run_spec`, module `Books`; what the ingests,
+//! the workers and a crew did, in `specs/`. The contract of `run_crew` carries the promise: each Book is that of its
+//! job, and the results are what the works answer for the records that the Book says.
 #![tactic(auto)]
 
 mod crew;

@@ -8,7 +8,7 @@ use brick_base::NoMemory;
 use std::alloc::Global;
 
 /// Seats and their works: those of a worker lane by lane, or those of a lane worker by worker.
-#[derive(Drop)]
+#[derive(Debug, Drop)]
 pub struct Row<S, W> {
     pub seats: Vec<S>,
     pub works: Vec<W>,

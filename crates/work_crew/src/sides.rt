@@ -17,7 +17,7 @@ use std::thread::{Threads, join_mut};
 use work_core::{ChainWork, TenantJob};
 
 /// An ingest, the number of its lane, and what came of it.
-#[derive(Drop)]
+#[derive(Debug, Drop)]
 pub struct IngestSide<I> {
     pub lane: usize,
     pub seat: I,

@@ -11,7 +11,7 @@ use std::alloc::Global;
 use work_core::{WorkResult, sort_items};
 
 /// Results, one behind another: the items of each leaf group, not yet in order, and the counts.
-#[derive(Drop)]
+#[derive(Debug, Drop)]
 pub struct Whole {
     pub groups: Vec<Vec<Item>>,
     /// Each up to 4,294,967,295.

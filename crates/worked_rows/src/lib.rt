@@ -1,4 +1,7 @@
 //! Worked examples of the definitions, computed by the checker.
+//!
+//! The crate stands on the crates of definitions alone. The rows stand in `specs/`, one module a subject, and each
+//! function with an empty body has a table of them as its contract.
 #![tactic(auto)]
 
 ghost use Rattle.worked_rows.specs.ChainRows.{ChainRows};
