@@ -149,7 +149,7 @@ fn the_cells_say_what_a_scan_of_the_rows_says(rt: HostRuntime) -> Result<(), Fai
     assert!(rt; are_short(&wanted));
     let mut state = 2;
     let (mut some, mut none) = (false, false);
-    for _ in 0..5000 {
+    for _ in 0..100_000 {
         state = next(state);
         let addr = ((state >> 33) % (5 << 24)) as u32;
         let row = routes.find(addr);
