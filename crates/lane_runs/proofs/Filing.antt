@@ -1,7 +1,7 @@
 -- A run over lanes from the reading of the chain file on.
 use Rattle.std.proofs.Common.{◌≡◌, ◌⊎◌, inl, inr, ℕ, ◌≤◌, List, [], ◌∷◌, ◌++◌, map, length, refl, sym, ap, ◌∙◌, subst, arith, append-nil}
 use Rattle.std.specs.Prelude.{Ok, Err, Contains, Result, Option, Some, None, IfSome, IsSomeAnd}
-use Rattle.std.specs.List.{AllByRecursion}
+use Rattle.std.specs.List.{AllByRecursion, AllZip}
 use Rattle.std.specs.Global.{Vec}
 use Rattle.brick_base.specs.declared.memory.NoMemory.{NoMemory}
 use Rattle.brick_spec.specs.Capture.{Contents, IsReadable}
@@ -10,7 +10,7 @@ use Rattle.brick_spec.specs.Files.{Files, AllStay}
 use Rattle.chain_spec.specs.ChainFault.{ChainFault}
 use Rattle.chain_spec.specs.ChainSet.{Chain, file_names}
 use Rattle.lane_spec.specs.LaneBook.{LaneBook}
-use Rattle.run_spec.specs.Books.{Job, refused_by}
+use Rattle.run_spec.specs.Books.{Job, refused_by, IsBookOf}
 use Rattle.run_spec.specs.Isolation.{IsTrueOf}
 use Rattle.run_spec.specs.Lanes.{numbers_in}
 use Rattle.run_spec.specs.Report.{Line, Outcome, ChainsRefused, StoreFault, Reported}
@@ -81,9 +81,9 @@ module _ (tells : Type 0) (chains out : List ℕ) (workers : ℕ) (set : List Ch
   all_first x jobs added (inl none) = inl none
   all_first x jobs added (inr have) = inr (have_first x jobs have)
 
-  touched_first : tells → (n m : ℕ) → AllStay mid.files now.files ⊎ (n ≡ m) → AllStay first.files now.files ⊎ (n ≡ m)
-  touched_first x n m (inl stays) = inl (λ name. stays name ∙ stay x name)
-  touched_first x n m (inr same) = inr same
+  touched_first : tells → (whole : Type 0) → AllStay mid.files now.files ⊎ whole → AllStay first.files now.files ⊎ whole
+  touched_first x whole (inl stays) = inl (λ name. stays name ∙ stay x name)
+  touched_first x whole (inr books) = inr books
 
   others_first : tells → (jobs : List Job) → ((t : ℕ) (chain : Chain) → IsTenant set t chain → ¬ (Contains (numbers_in jobs) t) → NoneTouched (file_names out chain) mid.files now.files)
       → (set' : List Chain) (t : ℕ) (chain : Chain) → Says chains out first.files set' → IsTenant set' t chain → ¬ (Contains (numbers_in jobs) t) → NoneTouched (file_names out chain) first.files now.files
@@ -99,7 +99,7 @@ module _ (tells : Type 0) (chains out : List ℕ) (workers : ℕ) (set : List Ch
     rising = r.rising;
     are_jobs = λ x. inr (set, says x, jobs_first x r.jobs (r.are x));
     all = λ x. all_first x r.jobs r.added (r.all x);
-    touched = λ x. touched_first x (length r.added) (length r.jobs) (r.touched x);
+    touched = λ x. touched_first x (AllZip (IsBookOf workers) r.jobs r.added) (r.touched x);
     others = λ x. others_first x r.jobs (r.others x);
     is_true = reported_true tells chains out (refused_by r.jobs r.added) set first mid now stay says apart lines since r.ran;
     books = r.books;
@@ -113,7 +113,7 @@ module _ (tells : Type 0) (chains out : List ℕ) (workers : ℕ) (set : List Ch
     rising = r.rising;
     are_jobs = λ x. inr (set, says x, jobs_first x r.jobs (r.are x));
     all = λ x. all_first x r.jobs r.added (r.all x);
-    touched = λ x. touched_first x (length r.added) (length r.jobs) (r.touched x);
+    touched = λ x. touched_first x (AllZip (IsBookOf workers) r.jobs r.added) (r.touched x);
     others = λ x. others_first x r.jobs (r.others x);
     is_true = stopped_true tells chains out (refused_by r.jobs r.added) set first mid now stay says apart e r.ran;
     books = tt;

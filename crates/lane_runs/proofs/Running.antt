@@ -62,12 +62,6 @@ part_books workers views js bs e h =
 pub whole_books : (workers : ℕ) (views js : List Job) (bs : List LaneBook) → views ≡ map unnumbered js → AllZip (IsBookOf workers) views bs → AllZip (IsBookOf workers) js bs
 whole_books workers views js bs e h = all_numbered (IsBookOf workers) (book_numbered workers) js bs (subst (λ (vs : List Job). AllZip (IsBookOf workers) vs bs) e h)
 
-zip_long : {A B : Type 0} (P : A → B → Type 0) (xs : List A) (ys : List B) → AllZip P xs ys → length ys ≡ length xs
-zip_long P [] [] h = refl
-zip_long P [] (y ∷ ys) h = absurd h
-zip_long P (x ∷ xs) [] h = absurd h
-zip_long P (x ∷ xs) (y ∷ ys) h = ap suc (zip_long P xs ys h.1)
-
 plain : {A : Type 0} (xs : List A) (n : ℕ) (x : A) → slice_get xs n ≡ Some x → slice_get xs (0 + n) ≡ Some x
 plain xs n x at = subst (λ (k : ℕ). slice_get xs k ≡ Some x) (let z : n ≡ 0 + n = omega arith in z) at
 
@@ -165,7 +159,7 @@ module _ (tells : Type 0) (out : List ℕ) (workers : ℕ) (set : List Chain) (f
           rising = numbers_rise 0 set inputs;
           are = are_own;
           all = λ x. inr (have x);
-          touched = λ x. inr (zip_long (IsBookOf workers) own j.added wrote.0);
+          touched = λ x. inr wrote.0;
           others = spared now.files stay wrote.1.unread;
           ran = ran_none tells s out (refused_by own j.added) set first now fails
               (λ x. may_after out (refused_by own j.added) 0 set first.files mid.files now.files (stay x) (may_of j.added told r err wrote.1.lines x));
@@ -190,7 +184,7 @@ module _ (tells : Type 0) (out : List ℕ) (workers : ℕ) (set : List Chain) (f
               rising = numbers_rise 0 set inputs;
               are = are_own;
               all = λ x. inr (have x);
-              touched = λ x. inr (zip_long (IsBookOf workers) own j.added wrote.0);
+              touched = λ x. inr wrote.0;
               others = spared now.files stay wrote.1.unread;
               ran = (mid, stay, subst (TenantsRan tells out first.faults (refused_by own j.added) 0 set mid now) same l.3);
               books = record { all = sym l.2 ∙ ap (numbers_read 0) same; each = wrote.0 };

@@ -61,7 +61,7 @@ module _ (tells : Type 0) (out : List ℕ) (workers : ℕ) (set : List Chain) (f
     pub rising : AreRisingNumbers (numbers_in jobs)
     pub are : tells → AllByRecursion (IsJob set first.files) jobs
     pub all : tells → (added ≡ []) ⊎ HaveJobs jobs
-    pub touched : tells → AllStay first.files now.files ⊎ (length added ≡ length jobs)
+    pub touched : tells → AllStay first.files now.files ⊎ AllZip (IsBookOf workers) jobs added
     pub others : tells → (t : ℕ) (chain : Chain) → IsTenant set t chain → ¬ (Contains (numbers_in jobs) t) → NoneTouched (file_names out chain) first.files now.files
     pub ran : AllRan tells out (refused_by jobs added) set first now r
     pub books : LinesHaveBooks workers jobs added r
@@ -83,7 +83,7 @@ pub record FilesRan (tells : Type 0) (chains out : List ℕ) (workers : ℕ) (be
   pub rising : AreRisingNumbers (numbers_in jobs)
   pub are_jobs : tells → AreJobs chains out before.files jobs
   pub all : tells → (added ≡ []) ⊎ ((set : List Chain) → Says chains out before.files set → HaveJobs tells out workers set before now jobs)
-  pub touched : tells → AllStay before.files now.files ⊎ (length added ≡ length jobs)
+  pub touched : tells → AllStay before.files now.files ⊎ AllZip (IsBookOf workers) jobs added
   pub others : tells → (set : List Chain) (t : ℕ) (chain : Chain) → Says chains out before.files set → IsTenant set t chain → ¬ (Contains (numbers_in jobs) t)
       → NoneTouched (file_names out chain) before.files now.files
   pub is_true : IsTrueOf tells chains out (refused_by jobs added) before now outcome

@@ -27,9 +27,9 @@ same_contents one (Some bytes) c d h k = one bytes c d h k
 
 pub stand_alone : ((bytes : List ℕ) (c d : Contents) → IsReadable bytes c → IsReadable bytes d → c ≡ d) → TenantsStandAlone
 unfolding Unique
-stand_alone one out chain t u before now before' now' end end' p p' same done done' =
+stand_alone one out chain refused t u before now before' now' end end' p p' same done done' =
     let m : _ = (p.done tt).means done in
     let m' : _ = (p'.done tt).means done' in
     let e : m.0 ≡ m'.0 = same_contents one (before.files chain.capture) m.0 m'.0 m.1 (subst (λ f. IsSomeAnd f (λ bytes. IsReadable bytes m'.0)) same m'.1) in
-    subst (λ names. AllByRecursion (λ name. now'.files name ≡ now.files name) names) (names_of_texts out chain [] m.0)
-    (same_held now.files now'.files (texts_of out chain [] m.0) m.3 (subst (λ c. AllByRecursion (Holds now'.files) (texts_of out chain [] c)) (sym e) m'.3))
+    subst (λ names. AllByRecursion (λ name. now'.files name ≡ now.files name) names) (names_of_texts out chain refused m.0)
+    (same_held now.files now'.files (texts_of out chain refused m.0) m.3 (subst (λ c. AllByRecursion (Holds now'.files) (texts_of out chain refused c)) (sym e) m'.3))
