@@ -82,76 +82,56 @@ fn expect<R: Abort + AllocGlobal>(
     Ok(())
 }
 
+/// A segment: its flow and direction, its sequence number, whether it is a SYN, its bytes, and whether it passes.
+type Row = (u32, Dir, u8, bool, &'static [u8], bool);
+
+/// Each segment passes as it came, or is dropped for its text, as its row says.
+fn expect_rows<R: Abort + AllocGlobal>(
+    rt: &R,
+    stage: &mut ScanStage,
+    rows: &[Row],
+) -> Result<(), NoMemory> {
+    for (flow, dir, seq, syn, bytes, passes) in rows {
+        expect(rt, stage, *flow, *dir, &segment(*seq, *syn, bytes), *passes)?;
+    }
+    Ok(())
+}
+
 #[test]
 fn a_flow_is_stopped(rt: HostRuntime) -> Result<(), Fail> {
     use Dir::{Forward, Reversed};
     let mut stage = ScanStage::new(rt.alloc(), b"attack", 65536)?;
-    expect(&rt, &mut stage, 0, Forward, &segment(99, true, b""), true)?;
-    expect(
-        &rt,
-        &mut stage,
-        0,
-        Forward,
-        &segment(105, false, b"ackyy"),
-        true,
-    )?;
-    // The bytes in order are xxattackyy with it.
-    expect(
-        &rt,
-        &mut stage,
-        0,
-        Forward,
-        &segment(100, false, b"xxatt"),
-        false,
-    )?;
-    expect(
-        &rt,
-        &mut stage,
-        0,
-        Forward,
-        &segment(110, false, b"zz"),
-        false,
-    )?;
-    expect(&rt, &mut stage, 0, Reversed, &segment(0, true, b""), false)?;
-    // A frame of the flow that is no segment passes, and so does a segment of another flow.
+    let rows: [Row; 5] = [
+        (0, Forward, 99, true, b"", true),
+        (0, Forward, 105, false, b"ackyy", true),
+        // the bytes in order are xxattackyy with it
+        (0, Forward, 100, false, b"xxatt", false),
+        (0, Forward, 110, false, b"zz", false),
+        (0, Reversed, 0, true, b"", false),
+    ];
+    expect_rows(&rt, &mut stage, &rows)?;
+    // a frame of the flow that is no segment passes
     let mut other = segment(0, false, b"attack");
     other[23] = 17;
     expect(&rt, &mut stage, 0, Forward, &other, true)?;
     other[12] = 0x86;
     expect(&rt, &mut stage, 0, Forward, &other, true)?;
-    expect(
-        &rt,
-        &mut stage,
-        1,
-        Forward,
-        &segment(0, false, b"atta"),
-        true,
-    )?;
-    // The parts of the text in the two directions are not the text.
-    expect(
-        &rt,
-        &mut stage,
-        1,
-        Reversed,
-        &segment(4, false, b"ck"),
-        true,
-    )?;
-    expect(
-        &rt,
-        &mut stage,
-        1,
-        Reversed,
-        &segment(6, false, b"attack"),
-        false,
-    )?;
-    expect(
-        &rt,
-        &mut stage,
-        1,
-        Forward,
-        &segment(4, false, b"..."),
-        false,
-    )?;
+    Ok(())
+}
+
+#[test]
+fn directions_and_flows_are_apart(rt: HostRuntime) -> Result<(), Fail> {
+    use Dir::{Forward, Reversed};
+    let mut stage = ScanStage::new(rt.alloc(), b"attack", 65536)?;
+    let rows: [Row; 5] = [
+        (0, Forward, 0, false, b"attack", false),
+        (1, Forward, 0, false, b"atta", true),
+        // the parts of the text in the two directions are not the text
+        (1, Reversed, 4, false, b"ck", true),
+        (1, Reversed, 6, false, b"attack", false),
+        (1, Forward, 4, false, b"...", false),
+    ];
+    expect_rows(&rt, &mut stage, &rows)?;
     Ok(())
 }
 

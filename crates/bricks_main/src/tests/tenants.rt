@@ -1,6 +1,7 @@
 //! Two tenants.
 use crate::run::run_words;
 use crate::tests::{FRAME, HEAD, HEADER, INLINE, LOWERED, copied, joined};
+use brick_base::NoMemory;
 use lane_table::TableKit;
 use std::alloc::Global;
 use std::sync::Wait;
@@ -206,87 +207,101 @@ fn as_many_calls_as_there_are(rt: HostRuntime) -> Result<(), Fail> {
 /// What the run tells of tenant a and of tenant b, and how long their files are, where they are there.
 type Row = (&'static str, &'static str, [Option<usize>; 6]);
 
-/// Each call of the store in turn fails: the two of the chain file, the two of each capture, and of each tenant those that make and fill two
-/// outputs of 24 bytes and make the refused file. A text whose call fails is written to its half.
+/// How long a whole text of one header is, half of it, and none of it.
+const ALL: Option<usize> = Some(24);
+
+const HALF: Option<usize> = Some(12);
+
+const EMPTY: Option<usize> = Some(0);
+
+/// What is told and left where the first call fails, the second, and so on: the two of the chain file, the two of each capture, and of each
+/// tenant those that make and fill two outputs and make the refused file. A text whose call fails is written to its half.
+const FAILING: [Row; 16] = [
+    ("", "store-fault\n", [None; 6]),
+    ("", "store-fault\n", [None; 6]),
+    (
+        " read-fault\n",
+        NONE_DONE,
+        [None, None, None, ALL, ALL, EMPTY],
+    ),
+    (
+        " read-fault\n",
+        NONE_DONE,
+        [None, None, None, ALL, ALL, EMPTY],
+    ),
+    (
+        NONE_DONE,
+        " read-fault\n",
+        [ALL, ALL, EMPTY, None, None, None],
+    ),
+    (
+        NONE_DONE,
+        " read-fault\n",
+        [ALL, ALL, EMPTY, None, None, None],
+    ),
+    (
+        " write-fault\n",
+        NONE_DONE,
+        [None, None, None, ALL, ALL, EMPTY],
+    ),
+    (
+        " write-fault\n",
+        NONE_DONE,
+        [HALF, None, None, ALL, ALL, EMPTY],
+    ),
+    (
+        " write-fault\n",
+        NONE_DONE,
+        [ALL, None, None, ALL, ALL, EMPTY],
+    ),
+    (
+        " write-fault\n",
+        NONE_DONE,
+        [ALL, HALF, None, ALL, ALL, EMPTY],
+    ),
+    (
+        " write-fault\n",
+        NONE_DONE,
+        [ALL, ALL, None, ALL, ALL, EMPTY],
+    ),
+    (
+        NONE_DONE,
+        " write-fault\n",
+        [ALL, ALL, EMPTY, None, None, None],
+    ),
+    (
+        NONE_DONE,
+        " write-fault\n",
+        [ALL, ALL, EMPTY, HALF, None, None],
+    ),
+    (
+        NONE_DONE,
+        " write-fault\n",
+        [ALL, ALL, EMPTY, ALL, None, None],
+    ),
+    (
+        NONE_DONE,
+        " write-fault\n",
+        [ALL, ALL, EMPTY, ALL, HALF, None],
+    ),
+    (
+        NONE_DONE,
+        " write-fault\n",
+        [ALL, ALL, EMPTY, ALL, ALL, None],
+    ),
+];
+
+/// The answer and the text of a row: where the chain file cannot be read, the text is told alone.
+fn told_by(alloc: Global, first: &str, second: &str) -> Result<(u8, String), NoMemory> {
+    if first.is_empty() {
+        return Ok((4, String::from_str(alloc, second)?));
+    }
+    Ok((1, format!(in alloc; "a{first}b{second}")?))
+}
+
+/// Each call of the store over two tenants fails in turn.
 #[test]
 fn each_call_over_two_tenants_failing_in_turn(rt: HostRuntime) -> Result<(), Fail> {
-    const ALL: Option<usize> = Some(24);
-    const HALF: Option<usize> = Some(12);
-    const EMPTY: Option<usize> = Some(0);
-    let table: [Row; 16] = [
-        ("", "store-fault\n", [None; 6]),
-        ("", "store-fault\n", [None; 6]),
-        (
-            " read-fault\n",
-            NONE_DONE,
-            [None, None, None, ALL, ALL, EMPTY],
-        ),
-        (
-            " read-fault\n",
-            NONE_DONE,
-            [None, None, None, ALL, ALL, EMPTY],
-        ),
-        (
-            NONE_DONE,
-            " read-fault\n",
-            [ALL, ALL, EMPTY, None, None, None],
-        ),
-        (
-            NONE_DONE,
-            " read-fault\n",
-            [ALL, ALL, EMPTY, None, None, None],
-        ),
-        (
-            " write-fault\n",
-            NONE_DONE,
-            [None, None, None, ALL, ALL, EMPTY],
-        ),
-        (
-            " write-fault\n",
-            NONE_DONE,
-            [HALF, None, None, ALL, ALL, EMPTY],
-        ),
-        (
-            " write-fault\n",
-            NONE_DONE,
-            [ALL, None, None, ALL, ALL, EMPTY],
-        ),
-        (
-            " write-fault\n",
-            NONE_DONE,
-            [ALL, HALF, None, ALL, ALL, EMPTY],
-        ),
-        (
-            " write-fault\n",
-            NONE_DONE,
-            [ALL, ALL, None, ALL, ALL, EMPTY],
-        ),
-        (
-            NONE_DONE,
-            " write-fault\n",
-            [ALL, ALL, EMPTY, None, None, None],
-        ),
-        (
-            NONE_DONE,
-            " write-fault\n",
-            [ALL, ALL, EMPTY, HALF, None, None],
-        ),
-        (
-            NONE_DONE,
-            " write-fault\n",
-            [ALL, ALL, EMPTY, ALL, None, None],
-        ),
-        (
-            NONE_DONE,
-            " write-fault\n",
-            [ALL, ALL, EMPTY, ALL, HALF, None],
-        ),
-        (
-            NONE_DONE,
-            " write-fault\n",
-            [ALL, ALL, EMPTY, ALL, ALL, None],
-        ),
-    ];
     let alloc = rt.alloc();
     let names = [
         "out/a.g.pcap",
@@ -298,24 +313,18 @@ fn each_call_over_two_tenants_failing_in_turn(rt: HostRuntime) -> Result<(), Fai
     ];
     let captures = (HEADER.as_slice(), HEADER.as_slice());
     let mut call = 0u32;
-    for (first, second, lengths) in table {
+    for (first, second, lengths) in FAILING {
         let fails = (vec![in alloc; call]?, Vec::new(alloc));
         let left = run_two(&rt, alloc, TWO_OUTPUTS, captures, fails, &names)?;
-        let (status, told) = if first.is_empty() {
-            (4, String::from_str(alloc, second)?)
-        } else {
-            (1, format!(in alloc; "a{first}b{second}")?)
-        };
+        let (status, told) = told_by(alloc, first, second)?;
         assert_eq!(rt; left.status, status, "call {call}");
         assert!(rt; left.told == told.into_bytes(), "call {call}");
-        let mut file = 0usize;
-        for length in lengths {
+        for (file, length) in lengths.iter().enumerate() {
             assert_eq!(rt;
                 at(&left, file).map(|bytes| bytes.len()),
-                length,
+                *length,
                 "call {call}"
             );
-            file = file.saturating_add(1);
         }
         call = call.saturating_add(1);
     }
