@@ -1,13 +1,16 @@
 -- What the chain makes of all records.
-use Rattle.std.proofs.Common.{◌≡◌, ℕ, zero, suc, get_or, ◌<◌, List, [], ◌∷◌, ◌++◌, map, length, min, Bool, true, false, Option, Some, refl, ap, sym, subst, ◌∙◌, arith}
-use Rattle.std.proofs.lemmas.Option.{slice_get-map}
-use Rattle.std.proofs.lemmas.List.FromFn.{length-range_with_len}
+use Rattle.std.proofs.Common.{◌≡◌, ℕ, suc, get_or, ◌+◌, ◌^◌, ◌<◌, List, [], ◌∷◌, ◌++◌, map, length, take, min, Bool, true, false, Option, Some, refl, ap, sym, subst, ◌∙◌, arith, length-take-le}
+use Rattle.std.proofs.lemmas.Option.{slice_get-map, slice_get_within, slice_get_read, get_or_from_slice_get}
+use Rattle.std.proofs.lemmas.List.{take_more}
+use Rattle.std.proofs.lemmas.List.FromFn.{length-range_with_len, length-map-range_with_len, get_or-map-range_with_len}
 use Rattle.std.specs.List.{slice_get, range_with_len}
 use Rattle.std.specs.Option.{option_map}
-use Rattle.brick_base.specs.Flow.{class_view}
-use Rattle.brick_base.specs.declared.flow.Class.{Class}
 use Rattle.brick_spec.specs.Capture.{Contents, Entry}
-use Rattle.brick_spec.specs.FlowClass.{class_at, classes_of, NatPlan}
+use Rattle.brick_spec.specs.Flow.{Class}
+use Rattle.brick_spec.specs.FlowClass.{class_at, class_of, classes_of, NatPlan}
+use Rattle.flow_key.specs.Frames.{frames_of}
+use Rattle.flow_key.specs.Maps.{ClassifierModel, after_frames}
+use Rattle.flow_key.proofs.Known.{records_counted}
 use Rattle.brick_spec.specs.Item.{Item}
 use Rattle.brick_spec.specs.Stage.{Reason, Big}
 use Rattle.flow_spec.specs.Answer as flows
@@ -34,19 +37,35 @@ pub long_map : {X Y : Type 0} (h : X → Y) (xs : List X) → length (map h xs) 
 long_map h [] = refl
 long_map h (x ∷ xs) = ap suc (long_map h xs)
 
--- there is a class for each record
-pub many_classes : (nat : Option NatPlan) (c : Contents) (classes : List Class) → map class_view classes ≡ classes_of nat (map (λ (e : Entry). e.frame) c.entries) → length classes ≡ length c.entries
-many_classes nat c classes e =
-    let frames = map (λ (e : Entry). e.frame) c.entries in
-    let one = sym (long_map class_view classes) ∙ (ap length e ∙ long_map (class_at nat frames) (range_with_len 0 (length frames))) in
-    one ∙ (length-range_with_len 0 (length frames) ∙ long_map (λ (e : Entry). e.frame) c.entries)
+-- the frame of a record
+frame_there : (c : Contents) (k : ℕ) (e : Entry) → slice_get c.entries k ≡ Some e → get_or (frames_of c) k [] ≡ e.frame
+frame_there c k e there = get_or_from_slice_get (frames_of c) k e.frame [] (slice_get-map (λ (x : Entry). x.frame) c.entries k ∙ ap (option_map (λ (x : Entry). x.frame)) there)
 
-get_there : (xs : List Class) (k : ℕ) (x : Class) → slice_get xs k ≡ Some x → slice_get (map class_view xs) k ≡ Some (class_view x)
-get_there xs k x e = slice_get-map class_view xs k ∙ ap (option_map class_view) e
+frame_within : (c : Contents) (k : ℕ) (e : Entry) → slice_get c.entries k ≡ Some e → k < length (frames_of c)
+frame_within c k e there = let within = slice_get_within c.entries k e there in let same = long_map (λ (x : Entry). x.frame) c.entries in omega (arith, within, same)
 
-pub class_there : (nat : Option NatPlan) (c : Contents) (classes : List Class) (k : ℕ) (x : Class) → map class_view classes ≡ classes_of nat (map (λ (e : Entry). e.frame) c.entries)
-    → slice_get classes k ≡ Some x → slice_get (classes_of nat (map (λ (e : Entry). e.frame) c.entries)) k ≡ Some (class_view x)
-class_there nat c classes k x e there = ap (λ xs. slice_get xs k) (sym e) ∙ get_there classes k x there
+-- as many records are known as were taken
+pub few_known : (nat : Option NatPlan) (c : Contents) (k : ℕ) (known : ClassifierModel) (e : Entry) → slice_get c.entries k ≡ Some e → known ≡ after_frames nat (take k (frames_of c)) → k + 1 < 2 ^ 32 → known.known.records < 2 ^ 32
+few_known nat c k known e there is below =
+    let within = frame_within c k e there in
+    let long = length-take-le k (frames_of c) (omega (arith, within)) in
+    let many = ap (λ (m : ClassifierModel). m.known.records) is ∙ records_counted nat (take k (frames_of c)) in
+    omega (arith, long, many, below)
+
+-- the class that is told of the next record is that of the capture
+pub class_there : (nat : Option NatPlan) (c : Contents) (k : ℕ) (x : Class) (e : Entry) → slice_get c.entries k ≡ Some e → x ≡ class_of nat (take k (frames_of c)) e.frame → slice_get (classes_of nat (frames_of c)) k ≡ Some x
+class_there nat c k x e there is =
+    let n = length (frames_of c) in
+    let f = class_at nat (frames_of c) in
+    let within = frame_within c k e there in
+    let told : x ≡ f k = is ∙ ap (class_of nat (take k (frames_of c))) (sym (frame_there c k e there)) in
+    let at : 0 + k ≡ k = omega arith in
+    slice_get_read (classes_of nat (frames_of c)) n k x (sym (length-map-range_with_len f 0 n)) within (told ∙ sym (get_or-map-range_with_len f 0 n k k x within at))
+
+-- a record more is known
+pub known_next : (nat : Option NatPlan) (c : Contents) (k : ℕ) (known : ClassifierModel) (e : Entry) → slice_get c.entries k ≡ Some e → known ≡ after_frames nat (take k (frames_of c) ++ e.frame ∷ []) → known ≡ after_frames nat (take (k + 1) (frames_of c))
+known_next nat c k known e there is =
+    is ∙ (ap (λ x. after_frames nat (take k (frames_of c) ++ x ∷ [])) (sym (frame_there c k e there)) ∙ ap (after_frames nat) (sym (take_more (frames_of c) k [] (frame_within c k e there))))
 
 -- what answers has not failed
 pub not_failed : (b : Bool) → (b ≡ true → false ≡ true) → b ≡ false
@@ -63,14 +82,6 @@ pub the_drops : (chain : Chain) (c : Contents) (drops counts : List ℕ) (big : 
     → ((rs : List Reason) (bigs : List Item) → drops ≡ map (min 4294967295) (counts_of rs) → big ≡ length bigs → counts ≡ counts_of (map (λ i. Big) bigs ++ rs)) → counts ≡ counts_of (reasons chain [] c)
 the_drops chain c drops counts big same many counted =
     counted (map (λ d. d.reason) (dropped_of (plan_of chain) (Some (length c.entries)) (accepted_items chain [] c))) (big_items chain c) same many
-
--- an element is there where its index is within
-pub got_within : {X : Type 0} (xs : List X) (k : ℕ) (d : X) → k < length xs → slice_get xs k ≡ Some (get_or xs k d)
-got_within [] k d h = absurd (no h) where
-  no : k < 0 → ⊥
-  no z = omega (arith, z)
-got_within (y ∷ ys) zero d h = refl
-got_within (y ∷ ys) (suc k) d h = got_within ys k d (omega (arith, h))
 
 module _ {W : Type 0} (follows : W → Plan → Type 0) (stands : W → List ClassedItem → Type 0) (finished : W → ℕ → List ClassedItem → Type 0) (ended : W → Option ℕ) (broken : W → Bool)
     (answer : Plan → List ClassedItem → ℕ → Answer) (means : (p : Plan) (list : List ClassedItem) (n : ℕ) → answer p list n ≡ flows.answer p list n)

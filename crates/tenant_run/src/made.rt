@@ -11,7 +11,7 @@ use crate::turns::{Turns, take_turn};
 use batch_ops::Batch;
 use brick_base::{NoMemory, Numbers};
 use chain_types::Chain;
-use flow_key::classify_all;
+use flow_key::Classifier;
 use pcap_io::Capture;
 use std::alloc::Global;
 use work_core::{NewWork, TenantDone, chains_own_keys, join_outputs};
@@ -30,7 +30,7 @@ pub fn make_tenant<W: NewWork>(
 ) -> Result<TenantDone, NoMemory>
     ensures { IfOk result (IsMade (chain_view chain.now) [] capture.now) }
 {
-    let classes = classify_all(alloc, chain.nat, capture)?;
+    let mut classifier = Classifier::new(alloc, chain.nat)?;
     let work: W = W::of_chain(alloc, chain)?;
     let mut turns = Turns {
         work,
@@ -42,7 +42,15 @@ pub fn make_tenant<W: NewWork>(
         big: 0,
     };
     for k in 0..capture.count() {
-        take_record(alloc, chain, capture, &classes, k, &mut turns, &mut counts)?;
+        take_record(
+            alloc,
+            chain,
+            capture,
+            k,
+            &mut classifier,
+            &mut turns,
+            &mut counts,
+        )?;
     }
     take_turn(alloc, &mut turns)?;
     chains_own_keys();

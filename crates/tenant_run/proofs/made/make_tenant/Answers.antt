@@ -42,7 +42,7 @@ returns g c =
     (c.in_ok-take_turn.ensures.same _ c.loop-k.invariant.plan) c.end.ensures c.in_ok-result.ensures.failed c.in_ok-result.ensures.answer c.chains_own_keys.ensures in
     record {
       accepted = c.loop-k.invariant.counted.accepted ∙ ap length (ap (λ m. accepted_upto chain cap m) at ∙ accepted_all chain cap);
-      refused_are = c.of.ensures ∙ c.new-3.ensures.items;
+      refused_are = c.of.ensures ∙ c.new-4.ensures.items;
       drops = the_drops chain cap c.in_ok-result.result.drops c.in_ok-with_big.field-0 c.loop-k.counts.big (ap (λ a. a.drops) is)
           (c.loop-k.invariant.counted.big ∙ ap length (ap (λ m. big_upto chain cap m) at ∙ big_all chain cap)) c.in_ok-with_big.ensures;
       outputs = c.in_ok-join_outputs.ensures ∙ ap (λ a. output_lists chain a.groups) is;
