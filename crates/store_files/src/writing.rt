@@ -93,6 +93,10 @@ fn put<S: Store>(
     ensures grows { IsTrue S.tells → Grows name.now (waiting.old.items ++ bytes.now) (S.file store.old) (S.file store.new) }
     ensures cause { Causes account name.now (S.faults store.old) (S.faults store.new) (IsErrOf result IoFault.Failed) }
 {
+    if bytes.len() < PIECE - waiting.len() {
+        waiting.extend_from_slice(bytes)?;
+        return Ok(());
+    }
     let mut rest = bytes;
     while !rest.is_empty() {
         let room = PIECE - waiting.len();
