@@ -1,6 +1,7 @@
 ghost use Rattle.std.specs.Prelude.{◌≡◌, ◌≤◌, None, false, IfOk, IsSomeAnd};
 
-use batch_ops::{Operator, Outlet, Staged, Then};
+use crate::Direct;
+use batch_ops::{Dropped, Operator, Outlet, Staged, Then};
 use brick_base::{Class, NoMemory, Raw};
 use packet_owner::Packet;
 use read_row::{ReadRow, TreatRead};
@@ -93,4 +94,24 @@ impl<S: TreatRead, W: Staged> Staged for Path<S, Option<Then<W, ReadRow<S>>>> {
     ghost means = { path_law S.kind ⟦<Option<Then<W, ReadRow<S>>> as Operator>⟧.meaning (λ p. p.before.stages.items) (λ p. p.behind) (λ p. p.failed)
         (maybe_law ⟦<Then<W, ReadRow<S>> as Operator>⟧.meaning
         (then_law W.meaning ⟦<ReadRow<S> as Operator>⟧.meaning (λ t. t.first) (λ t. t.second) (λ t. t.failed) W.means (row_law S.kind (λ r. r.stages.items) (λ r. r.failed)))) };
+}
+
+impl<S: TreatRead, W: Staged> Direct for Path<S, Option<Then<W, ReadRow<S>>>> {
+    ghost direct = { λ p. p.behind ≡ None };
+
+    fn is_direct(&self) -> bool {
+        self.behind.is_none()
+    }
+
+    fn treat(&mut self, class: &Class, packet: Packet<Raw>) -> Result<Packet<Raw>, Dropped> {
+        if self.failed {
+            return Err(Dropped {
+                reason: None,
+                packet,
+            });
+        }
+        let treated = self.before.treat(class, packet);
+        self.failed = self.before.failed;
+        treated
+    }
 }
