@@ -1,5 +1,5 @@
 -- A match of the code as one of the definitions.
-use Rattle.std.specs.Prelude.{option_map}
+use Rattle.std.specs.Prelude.{ℕ, Bool, Option, ◌&&◌, option_map}
 use Rattle.brick_spec.specs.Match as match
 use Rattle.tcp_udp.specs.declared.matching.Match.{Match}
 use Rattle.brick_base.specs.PrefixView.{prefix_view}
@@ -13,3 +13,7 @@ match_view m = record {
   dport = m.dport;
   port = m.port;
 }
+
+-- every key of a port that it has is met
+abbrev pub meets_ports : match.Match → Option (ℕ × ℕ) → Bool
+meets_ports m ports = match.meets_port m.sport match.is_source ports && (match.meets_port m.dport match.is_destination ports && match.meets_port m.port match.is_either ports)

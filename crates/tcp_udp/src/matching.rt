@@ -26,7 +26,7 @@ pub struct Match {
 }
 
 impl Match {
-    ghost use Rattle.tcp_udp.specs.MatchView.{match_view};
+    ghost use Rattle.tcp_udp.specs.MatchView.{match_view, meets_ports};
 
     /// Whether a frame of this five-tuple meets every key. A frame without ports meets no key of a port, and a frame without an
     /// IPv4 layer meets exactly a match without a key.
@@ -50,15 +50,26 @@ impl Match {
             && self.port.is_none()
     }
 
-    fn meets_tuple(&self, t: &Tuple) -> bool
+    /// Whether a frame of this five-tuple meets every key. The keys of ports are tried first: most matches that are not met differ
+    /// there.
+    pub fn meets_tuple(&self, t: &Tuple) -> bool
         ensures { result ≡ meets_tuple (match_view self.now) (tuple_view t.now) }
     {
+        if !self.meets_ports(&t.ports) {
+            return false;
+        }
         meets_number(self.proto, t.proto)
             && meets_prefix(self.src, t.src)
             && meets_prefix(self.dst, t.dst)
-            && meets_source(self.sport, t.ports)
-            && meets_destination(self.dport, t.ports)
-            && meets_either(self.port, t.ports)
+    }
+
+    fn meets_ports(&self, ports: &Option<(u16, u16)>) -> bool
+        ensures { result ≡ meets_ports (match_view self.now) ports.now }
+    {
+        if !meets_destination(self.dport, *ports) {
+            return false;
+        }
+        meets_source(self.sport, *ports) && meets_either(self.port, *ports)
     }
 }
 
