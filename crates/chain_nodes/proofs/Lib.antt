@@ -2,6 +2,7 @@ pub mod Settles
 pub mod Desks
 pub mod Waits
 pub mod Piped
+pub mod Directs
 pub mod Fanned
 pub mod Worked
 pub mod Ends

@@ -1,6 +1,6 @@
-ghost use Rattle.std.specs.Prelude.{◌≡◌, ◌<◌, ◌≤◌, ◌+◌, ℕ, [], ◌∷◌, ◌++◌, map, flat_map, min, slice_index};
+ghost use Rattle.std.specs.Prelude.{◌≡◌, ◌<◌, ◌≤◌, ◌+◌, ℕ, [], ◌∷◌, ◌++◌, map, flat_map, min, slice_index, is_err};
 ghost use Rattle.brick_base.specs.Reason.{reason_view};
-ghost use Rattle.batch_ops.specs.Outlet.{buffer_of, drops_of};
+ghost use Rattle.batch_ops.specs.Outlet.{buffer_of, drops_of, is_lost};
 ghost use Rattle.packet_owner.specs.Packet.{packet_item};
 ghost use Rattle.flow_spec.specs.Answer.{reason_place};
 ghost use Rattle.flow_work.specs.Buffers.{AreOut, Recycled};
@@ -8,7 +8,7 @@ ghost use Rattle.flow_work.specs.Log.{CountsMore};
 ghost use Rattle.chain_nodes.specs.Desk.{counted, dropped_buffer, SameLists};
 
 use batch_ops::{Dropped, Outlet};
-use brick_base::{Raw, Reason};
+use brick_base::{NoMemory, Raw, Reason};
 use packet_owner::Packet;
 use work_core::Returned;
 
@@ -75,6 +75,20 @@ impl Desk {
     {
         count(&mut self.counts, Some(reason));
         self.put_back(packet);
+    }
+
+    /// Counts a packet that was dropped, and brings its buffer to rest. One that was lost to want of memory is not counted.
+    pub fn take_dropped(&mut self, dropped: Dropped) -> Result<(), NoMemory>
+        requires { AreOut (dropped_buffer dropped ∷ []) self.old.back self.old.out.spare }
+        ensures recycled { Recycled (dropped_buffer dropped ∷ []) self.old.back self.new.back self.old.out.spare self.new.out.spare }
+        ensures lists { SameLists self.old.out self.new.out }
+        ensures counts { CountsMore self.old.counts self.new.counts (drops_of dropped) }
+        ensures lost { is_err result ≡ is_lost dropped }
+    {
+        let lost = dropped.reason.is_none();
+        count(&mut self.counts, dropped.reason);
+        self.put_back(dropped.packet);
+        if lost { Err(NoMemory) } else { Ok(()) }
     }
 
     /// Counts the packets that were dropped, and brings their buffers to rest.

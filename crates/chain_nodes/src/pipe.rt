@@ -11,10 +11,11 @@ ghost use Rattle.chain_nodes.specs.Node.{Took, PipeServes};
 ghost use Rattle.chain_nodes.specs.NodeLaws.{pipe_more};
 
 use crate::{Desk, Node};
-use batch_ops::{Passed, Staged};
+use batch_ops::Passed;
 use brick_base::{Class, NoMemory, Raw};
 use packet_owner::Packet;
 use pcap_io::Items;
+use stage_path::Direct;
 use std::alloc::Global;
 use std::mem::swap;
 
@@ -58,14 +59,14 @@ fn pass_on<N: Node>(
 
 /// A row of stages, and a place behind it.
 #[derive(Debug, Drop)]
-pub struct Pipe<P: Staged + Drop, N: Node> {
+pub struct Pipe<P: Direct + Drop, N: Node> {
     pub path: P,
     pub next: N,
     // the packets on their way from the one to the other: none between calls
     pub waiting: Vec<Passed>,
 }
 
-impl<P: Staged + Drop, N: Node> Pipe<P, N> {
+impl<P: Direct + Drop, N: Node> Pipe<P, N> {
     /// The row and the place, beside a store of so many spare buffers.
     pub fn new(alloc: Global, path: P, next: N, count: u32) -> Result<Pipe<P, N>, NoMemory>
         ensures path { IfOk result (λ t. t.path ≡ path) }
@@ -81,7 +82,7 @@ impl<P: Staged + Drop, N: Node> Pipe<P, N> {
     }
 }
 
-impl<P: Staged + Drop, N: Node> Node for Pipe<P, N> {
+impl<P: Direct + Drop, N: Node> Node for Pipe<P, N> {
     ghost stands = { λ t flow came parts. PipeStands P.meaning.stands N.stands t.path t.next flow came parts };
 
     ghost makes = { λ t. pipe_makes P.meaning.row N.makes t.path t.next };
@@ -97,6 +98,12 @@ impl<P: Staged + Drop, N: Node> Node for Pipe<P, N> {
         packet: Packet<Raw>,
         desk: &mut Desk,
     ) -> Result<(), NoMemory> {
+        if self.path.is_direct() {
+            return match self.path.treat(class, packet) {
+                Ok(packet) => self.next.take(alloc, class, packet, desk),
+                Err(dropped) => desk.take_dropped(dropped),
+            };
+        }
         let stepped = self.path.step(class, packet, &mut desk.out);
         desk.settle();
         swap(&mut self.waiting, &mut desk.out.passed);

@@ -11,6 +11,7 @@ use Rattle.flow_work.specs.Buffers.{AreOut}
 use Rattle.chain_nodes.specs.Node.{Took}
 use Rattle.chain_nodes.proofs.Piped.{settle_out, passed_out, behind_serves, pipe_took, going_on}
 use Rattle.chain_nodes.proofs.Desks.{took_as}
+use Rattle.chain_nodes.proofs.Directs.{passed_took, dropped_took}
 use Rattle.chain_nodes.proofs.pipe.PipeNode.take.Goals as goal
 
 pub settle-requires : goal.settle-requires
@@ -44,3 +45,19 @@ returns g c =
     pipe_took p.meaning n.stands n.makes n.results n.serves (λ t. t.path) (λ t. t.next) (λ t. t.waiting.items) (λ t. vec_capacity t.waiting)
     c.args.self.now (record { path = c.step-stepped.new.self; next = c.pass_on-passed.new.next; waiting = c.pass_on-passed.new.waiting }) (flow_of c.args.class.now) (keyed c.args.packet ∷ []) (work_item c.args.class.now c.args.packet ∷ []) None c.args.desk.now c.settle.new.self _ c.pass_on-passed.new.desk c.step-stepped.new.out c.step-stepped.result c.pass_on-passed.result c.both.result c.both.ensures
     effect c.requires.rest c.requires.out c.settle.ensures.recycled c.settle.ensures.counts refl refl refl two c.pass_on-passed.ensures.none has
+
+pub returns-in-Ok : goal.returns-in-Ok
+returns-in-Ok g c =
+    let p = g.P.Operator in
+    let n = g.N.Node in
+    passed_took p.meaning n.stands n.makes n.results n.serves (λ t. t.path) (λ t. t.next) (λ t. t.waiting.items) (λ t. vec_capacity t.waiting)
+    c.args.self.now (record { path = c.treat.new.self; next = c.take.new.self; waiting = c.args.self.now.waiting }) c.args.class.now c.args.packet c.in-Ok.packet c.args.desk.now c.take.new.desk c.take.result c.in-Ok.ensures c.take.ensures refl refl
+
+pub returns-in-Err : goal.returns-in-Err
+returns-in-Err g c =
+    let p = g.P.Operator in
+    let n = g.N.Node in
+    let took = c.take_dropped.ensures in
+    dropped_took p.meaning n.stands n.makes n.results n.serves (λ t. t.path) (λ t. t.next) (λ t. t.waiting.items) (λ t. vec_capacity t.waiting)
+    c.args.self.now (record { path = c.treat.new.self; next = c.args.self.now.next; waiting = c.args.self.now.waiting }) c.args.class.now c.args.packet c.in-Err.dropped c.args.desk.now c.take_dropped.new.self c.take_dropped.result
+    c.in-Err.ensures refl took.recycled took.lists took.counts took.lost c.requires.rest refl refl
