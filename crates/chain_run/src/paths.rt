@@ -7,10 +7,10 @@ ghost use Rattle.tenant_spec.specs.ChainPlan.{before_stages};
 ghost use Rattle.chain_run.specs.Sound.{AreSound};
 ghost use Rattle.chain_run.specs.Built.{IsPath};
 
-use batch_ops::Staged;
 use brick_base::NoMemory;
 use chain_types::{Stage, Unparsed};
 use flow_key::NatPlan;
+use stage_path::Direct;
 use std::alloc::Global;
 
 /// What the paths of a chain have in common.
@@ -25,7 +25,7 @@ pub struct Site {
 }
 
 /// Stages of a chain, one after another.
-pub trait StagesPath: Staged + Drop {
+pub trait StagesPath: Direct + Drop {
     /// The path of these stages, to which nothing came. What has no IPv4 layer is dropped before the first, where that is asked.
     fn of_stages(
         alloc: Global,

@@ -46,7 +46,7 @@ fn is_met(wanted: &Option<Match>, t: &Tuple) -> bool
 {
     match wanted {
         None => true,
-        Some(wanted) => wanted.meets(&Some(*t)),
+        Some(wanted) => wanted.meets_tuple(t),
     }
 }
 
