@@ -18,7 +18,7 @@ pub fn drain_one<K: LaneKit, R: Wait>(rt: &R, lane: &K::Lane, seat: &mut K::Work
     for _ in rt.forever() {
         match K::receive(rt, lane, seat) {
             Got::Packet(packet) => K::release(rt, lane, seat, packet.into_buffer()),
-            Got::Nothing => {}
+            Got::Nothing => thread::yield_now(),
             Got::End => return,
         }
     }

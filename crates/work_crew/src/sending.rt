@@ -14,9 +14,10 @@ use lane_core::LaneKit;
 use packet_owner::{Buffer, Packet};
 use std::alloc::Global;
 use std::sync::Wait;
+use std::thread;
 use work_core::TenantJob;
 
-/// Claims until a buffer comes.
+/// Claims until a buffer comes. Where none came, others may go on before it claims again.
 fn claim_one<K: LaneKit, R: Wait>(rt: &R, lane: &K::Lane, seat: &mut K::Ingest) -> Buffer
     requires own { K.is_ingest_of lane.now seat.old }
     requires room { length (K.ingest_facts seat.old).held < (K.lane_facts lane.now).buffers }
@@ -28,6 +29,7 @@ fn claim_one<K: LaneKit, R: Wait>(rt: &R, lane: &K::Lane, seat: &mut K::Ingest) 
         if let Some(buffer) = K::claim(rt, lane, seat) {
             return buffer;
         }
+        thread::yield_now();
     }
     unreachable!()
 }

@@ -71,7 +71,16 @@ fn give_back<K: LaneKit, R: Wait>(
     }
 }
 
-/// Receives a batch, has the work run it, and releases its buffers. Answers whether END was taken.
+/// What came of a lane's turn at a worker.
+#[derive(Clone, Copy, Debug, PartialEq, Eq)]
+pub struct Turn {
+    /// Whether the batch was full, so that more may be there.
+    pub full: bool,
+    /// Whether END was taken.
+    pub ended: bool,
+}
+
+/// Receives a batch, has the work run it, and releases its buffers. Where no packet came the work has no turn.
 pub fn serve<K: LaneKit, W: ChainWork, R: Wait>(
     rt: &R,
     alloc: Global,
@@ -79,20 +88,27 @@ pub fn serve<K: LaneKit, W: ChainWork, R: Wait>(
     seat: &mut K::Worker,
     work: &mut W,
     job: &TenantJob,
-) -> bool
+) -> Turn
     requires own { K.is_worker_of lane.now seat.old }
     requires capture { (K.lane_facts lane.now).capture ≡ job.now.capture }
     requires going { (K.worker_facts seat.old).ended ≡ false }
     requires worked { HasWorked W.ready W.stands W.ended W.broken (job_view job.now) (K.worker_facts seat.old) work.old }
     ensures own { K.is_worker_of lane.now seat.new }
-    ensures ended { (K.worker_facts seat.new).ended ≡ result }
+    ensures ended { (K.worker_facts seat.new).ended ≡ result.ended }
     ensures place { (K.worker_facts seat.new).place ≡ (K.worker_facts seat.old).place }
     ensures worked { HasWorked W.ready W.stands W.ended W.broken (job_view job.now) (K.worker_facts seat.new) work.new }
     ensures follows { (p : Plan) → W.follows work.old p → W.follows work.new p }
 {
     let mut batch = Batch::new();
     let ended = gather::<K, R>(rt, lane, seat, job, &mut batch);
+    let count = batch.len();
+    if count == 0 {
+        return Turn { full: false, ended };
+    }
     let mut returned = work.turn(alloc, batch);
     give_back::<K, R>(rt, lane, seat, &mut returned);
-    ended
+    Turn {
+        full: count == 32,
+        ended,
+    }
 }

@@ -10,10 +10,11 @@ use crate::serving::serve;
 use lane_core::LaneKit;
 use std::alloc::Global;
 use std::sync::Wait;
+use std::thread;
 use work_core::{ChainWork, TenantJob};
 
 /// Receives the packets that were sent to this worker, lane after lane in turns, has the lane's work run them, and releases their buffers,
-/// until END was taken in each.
+/// until END was taken in each. Where no lane had a full batch, others may go on before the next round.
 pub fn worker<K: LaneKit, W: ChainWork, R: Wait>(
     rt: &R,
     alloc: Global,
@@ -42,16 +43,27 @@ pub fn worker<K: LaneKit, W: ChainWork, R: Wait>(
     let mut ended = [false; 16];
     'rounds: for _ in rt.forever() {
         let mut all = true;
+        let mut full = false;
         'turns: for t in 0..lanes.len() {
             if !ended[t] {
                 all = false;
-                if serve::<K, W, R>(rt, alloc, &lanes[t], &mut seats[t], &mut works[t], &jobs[t]) {
-                    ended[t] = true;
-                }
+                let turn = serve::<K, W, R>(
+                    rt,
+                    alloc,
+                    &lanes[t],
+                    &mut seats[t],
+                    &mut works[t],
+                    &jobs[t],
+                );
+                ended[t] = turn.ended;
+                full |= turn.full;
             }
         }
         if all {
             return;
+        }
+        if !full {
+            thread::yield_now();
         }
     }
     unreachable!()
