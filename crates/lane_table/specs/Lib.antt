@@ -1,6 +1,7 @@
 pub mod Cells
 pub mod Rule
 pub mod Steps
+pub mod Tries
 pub mod Joins
 pub mod Hands
 pub mod Logs

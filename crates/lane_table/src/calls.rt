@@ -18,8 +18,9 @@ use lane_core::{Got, Log};
 use packet_owner::{Buffer, Packet};
 
 impl TableLane {
-    /// Claims a buffer, which was in the pool and which the ingest alone then holds. `None` comes exactly where the word of each
-    /// buffer was found taken at a step of this call, and then at least as many claims as there are buffers gave a buffer.
+    /// Claims a buffer, which was in the pool and which the ingest alone then holds. It tries the word behind the one that gave the last
+    /// buffer first. `None` comes exactly where the word of each buffer was found taken at a step of this call, and then at least as many
+    /// claims as there are buffers gave a buffer.
     pub fn claim(&self, seat: &mut IngestSeat) -> Option<Buffer>
         requires own { IsIngestOf self.now seat.old }
         ensures own { IsIngestOf self.now seat.new }
@@ -29,15 +30,19 @@ impl TableLane {
         ensures all_given { IfNone result ((lane_of self.now).buffers ≤ claims_given (ingest_of seat.old)) }
         ensures exactly { IsNone result ↔ ((i : ℕ) → i < (lane_of self.now).buffers → found_by seat.old i < found_by seat.new i) }
     {
-        for i in 0..self.buffers as usize {
-            if let Some(b) = self.try_word(&mut seat.seat, i) {
+        let first = seat.next.min(self.buffers);
+        match self.try_all(&mut seat.seat, first) {
+            Some(b) => {
                 let pushed = seat.held.push(b.slot());
                 prove!(pushed.is_ok());
-                return Some(b);
+                seat.next = b.slot() + 1;
+                Some(b)
+            }
+            None => {
+                seat.missed = seat.missed.saturating_add(1);
+                None
             }
         }
-        seat.missed = seat.missed.saturating_add(1);
-        None
     }
 
     /// Sends the packet to worker `w`, in a buffer that the ingest holds. A ring is never full.

@@ -37,6 +37,8 @@ pub struct IngestSeat {
     pub(crate) held: Vec<u32>,
     pub(crate) missed: u64,
     pub(crate) finished: bool,
+    // the word that the next claim tries first
+    pub(crate) next: u32,
     ghost role: { seat.me.0.roles ≡ 0 ∷ [] },
     ghost rest: { (seat.me.1 ≡ []) × (seat.me.0.out ≡ []) },
     ghost counts: { (length seat.me.0.found ≡ seat.table_id.slots) × (0 < seat.table_id.slots) },

@@ -1,7 +1,8 @@
 // The steps on a buffer's word and its slot.
-ghost use Rattle.std.specs.Prelude.{◌≡◌, ◌<◌, [], length, MatchOption, Some};
+ghost use Rattle.std.specs.Prelude.{◌≡◌, ◌<◌, ◌≤◌, [], length, MatchOption, IfSome, Some};
 ghost use Rattle.lane_spec.specs.Counts.{times};
 ghost use Rattle.lane_table.specs.Steps.{claimed_by, missed_by, settled_by, released_by};
+ghost use Rattle.lane_table.specs.Tries.{looked_at, FoundTaken, FoundFree};
 
 use crate::lane::TableLane;
 use crate::plays::{ClaimWord, OpenWord, SettleSlot, TakeSlot};
@@ -26,6 +27,38 @@ impl TableLane {
         match found {
             Stored::Free(b) => Some(b),
             _ => unreachable!(),
+        }
+    }
+
+    /// Tries the words from `from` on, before `to`, in order, each once, until one gives its buffer.
+    fn try_words(&self, seat: &mut Seat<Stored, SeatView>, from: u32, to: u32) -> Option<Buffer>
+        requires lane { (seat.old.table_id ≡ self.now.table.shared.table_id) × (from ≤ to) × (to ≤ self.now.buffers) }
+        requires seat { (0 < self.now.buffers) × (length seat.old.me.0.found ≡ self.now.buffers) × (seat.old.me.0.about ≡ Some self.now.table.shared.key) × (0 < times 0 seat.old.me.0.roles) × (length seat.old.me.0.roles ≡ 1) × (seat.old.me.0.out ≡ []) × (seat.old.me.1 ≡ []) }
+        ensures same { (seat.new.table_id ≡ seat.old.table_id) × (seat.new.id ≡ seat.old.id) }
+        ensures view { MatchOption result (seat.new.me ≡ (looked_at seat.new.me.0.found seat.old.me.0, [])) (λ b. seat.new.me ≡ (settled_by (claimed_by b.slot (looked_at seat.new.me.0.found seat.old.me.0)), [])) }
+        ensures tried { MatchOption result (FoundTaken from to seat.old.me.0.claimed seat.old.me.0.found seat.new.me.0.found) (λ b. (b.slot < to) × FoundFree b.slot seat.old.me.0.found seat.new.me.0.found) }
+        ensures buffer { IfSome result (λ b. (b.room ≡ self.now.bytes) × (length seat.old.me.0.held < self.now.buffers) × (times b.slot seat.old.me.0.held ≡ 0)) }
+    {
+        for i in from as usize..to as usize {
+            if let Some(b) = self.try_word(seat, i) {
+                return Some(b);
+            }
+        }
+        None
+    }
+
+    /// Tries the words from `first` on to the last, and then those before, each once, until one gives its buffer.
+    pub(crate) fn try_all(&self, seat: &mut Seat<Stored, SeatView>, first: u32) -> Option<Buffer>
+        requires lane { (seat.old.table_id ≡ self.now.table.shared.table_id) × (first ≤ self.now.buffers) }
+        requires seat { (0 < self.now.buffers) × (length seat.old.me.0.found ≡ self.now.buffers) × (seat.old.me.0.about ≡ Some self.now.table.shared.key) × (0 < times 0 seat.old.me.0.roles) × (length seat.old.me.0.roles ≡ 1) × (seat.old.me.0.out ≡ []) × (seat.old.me.1 ≡ []) }
+        ensures same { (seat.new.table_id ≡ seat.old.table_id) × (seat.new.id ≡ seat.old.id) }
+        ensures view { MatchOption result (seat.new.me ≡ (looked_at seat.new.me.0.found seat.old.me.0, [])) (λ b. seat.new.me ≡ (settled_by (claimed_by b.slot (looked_at seat.new.me.0.found seat.old.me.0)), [])) }
+        ensures tried { MatchOption result (FoundTaken 0 self.now.buffers seat.old.me.0.claimed seat.old.me.0.found seat.new.me.0.found) (λ b. (b.slot < self.now.buffers) × FoundFree b.slot seat.old.me.0.found seat.new.me.0.found) }
+        ensures buffer { IfSome result (λ b. (b.room ≡ self.now.bytes) × (length seat.old.me.0.held < self.now.buffers) × (times b.slot seat.old.me.0.held ≡ 0)) }
+    {
+        match self.try_words(seat, first, self.buffers) {
+            Some(b) => Some(b),
+            None => self.try_words(seat, 0, first),
         }
     }
 

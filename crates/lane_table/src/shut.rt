@@ -96,6 +96,7 @@ impl TableLane {
             held: _,
             missed,
             finished: _,
+            next: _,
         } = ingest;
         let TableLane {
             table,

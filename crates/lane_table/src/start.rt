@@ -169,6 +169,7 @@ impl TableLane {
             held,
             missed: 0,
             finished: false,
+            next: 0,
         })
     }
 
