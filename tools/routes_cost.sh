@@ -1,6 +1,6 @@
 #!/bin/sh
 # Counts what tables of routes cost. By the program `route_growth`: the instructions of one address among 4,096 rows, at most 60, and those of
-# a table of 1,000, 2,000 and 4,000 rows, each step at most 2.3 times. By `bricks check`: the instructions of a chain file with a route of 1,000,
+# a table of 1,000, 2,000 and 4,000 rows, each step at most 2.3 times. By mode `check`: the instructions of a chain file with a route of 1,000,
 # 2,000 and 4,000 rows, each step at most 2.3 times; and how much more memory a chain file of 1 MiB takes at once where its routes stand in
 # tables of 64 rows, which have cells, than where they stand in tables of 63, which have none: at most 80 MiB. Wants valgrind, /usr/bin/time
 # and python3.
@@ -73,7 +73,8 @@ done
 before=0
 for rows in 1000 2000 4000; do
     chains 1 "$rows" 1 >c.toml
-    now=$(instructions "$program" check c.toml)
+    "$program" check c.toml . >report || exit 1
+    now=$(instructions "$program" check c.toml .)
     echo "a chain file with a route of $rows rows: $now instructions"
     [ "$before" -eq 0 ] || [ $((now * 10)) -le $((before * 23)) ] || failed=1
     before=$now
@@ -81,7 +82,7 @@ done
 
 # the most memory that the program has at once, in KiB
 peak() {
-    /usr/bin/time -f %M -o peak "$program" check c.toml >report || exit 1
+    /usr/bin/time -f %M -o peak "$program" check c.toml . >report || exit 1
     cat peak
 }
 
