@@ -1,6 +1,6 @@
 //! The generated capture.
 
-ghost use Rattle.std.specs.Prelude.{◌≡◌, ◌≤◌, ◌++◌, IfOk, OnOk, vec_len};
+ghost use Rattle.std.specs.Prelude.{◌≡◌, ◌≤◌, ◌++◌, IfOk, OnOk, length};
 ghost use Rattle.brick_spec.specs.Bytes.{Little};
 ghost use Rattle.brick_spec.specs.Capture.{record_text, IsReadable};
 ghost use Rattle.run_spec.specs.Generated.{generated_capture};
@@ -10,24 +10,22 @@ use crate::frames::{LONGEST, write_frame};
 use crate::sequence::Sequence;
 use brick_base::NoMemory;
 use packet_owner::Buffer;
-use pcap_io::{Frame, Item, Writer};
+use pcap_io::{LentItem, Writer};
 use std::alloc::Global;
 
-/// Puts a frame behind the others as record `k`, a millisecond after the one before it. The memory of the frame comes back.
-fn put_record(writer: &mut Writer, k: u32, frame: Vec<u8>) -> Result<Vec<u8>, NoMemory>
-    requires { vec_len frame ≤ 262144 }
-    ensures { OnOk result (writer.new ≡ writer.old ++ record_text Little (entry_of_frame k frame.items)) }
+/// Puts a frame behind the others as record `k`, a millisecond after the one before it.
+fn put_record(writer: &mut Writer, k: u32, frame: &[u8]) -> Result<(), NoMemory>
+    requires { length frame.now ≤ 262144 }
+    ensures { OnOk result (writer.new ≡ writer.old ++ record_text Little (entry_of_frame k frame.now)) }
 {
-    let item = Item {
+    writer.append_lent(LentItem {
         a: u64::from(k),
         j: 0,
         seconds: k / 1000,
         fraction: k % 1000 * 1000,
         original: frame.len() as u32,
-        frame: Frame::of(frame),
-    };
-    writer.append(&item)?;
-    Ok(item.frame.into_vec())
+        frame,
+    })
 }
 
 /// The generated capture of `count` records, in the form in which captures are written, with microseconds. The records are made by a
@@ -44,7 +42,7 @@ pub fn generate(alloc: Global, number: u64, count: u32) -> Result<Vec<u8>, NoMem
     for k in 0..count {
         let draw = sequence.draw();
         buffer = write_frame(&mut frame, buffer, draw, k)?;
-        frame = put_record(&mut writer, k, frame)?;
+        put_record(&mut writer, k, &frame)?;
     }
     Ok(writer.into_bytes())
 }

@@ -8,14 +8,14 @@ ghost use Rattle.pcap_io.specs.View.{item_view};
 use crate::{Desk, Node};
 use brick_base::{Class, NoMemory, Raw};
 use packet_owner::Packet;
-use pcap_io::{Item, Items};
+use pcap_io::{Items, ItemsBuilder};
 use std::alloc::Global;
 use work_core::sort_items;
 
-/// The items of a leaf group, in the order in which they came.
+/// The items of a leaf group, in the order in which they came. Their frames share one piece of memory.
 #[derive(Debug, Drop)]
 pub struct LeafList {
-    pub items: Vec<Item>,
+    pub items: ItemsBuilder,
 }
 
 impl LeafList {
@@ -24,7 +24,7 @@ impl LeafList {
         ensures { result.items.items ≡ [] }
     {
         LeafList {
-            items: Vec::new(alloc),
+            items: ItemsBuilder::new(alloc),
         }
     }
 }
@@ -40,15 +40,14 @@ impl Node for LeafList {
 
     fn take(
         &mut self,
-        alloc: Global,
+        _alloc: Global,
         _class: &Class,
         packet: Packet<Raw>,
         desk: &mut Desk,
     ) -> Result<(), NoMemory> {
-        let item = packet.item(alloc);
+        let pushed = self.items.push(packet.lend());
         desk.put_back(packet);
-        self.items.push(item?)?;
-        Ok(())
+        pushed
     }
 
     fn end(
@@ -62,7 +61,8 @@ impl Node for LeafList {
     }
 
     fn hand_over(self, alloc: Global, lists: Vec<Items>) -> Result<Vec<Items>, NoMemory> {
-        let LeafList { mut items } = self;
+        let LeafList { items } = self;
+        let mut items = items.into_items(alloc)?;
         sort_items(&mut items)?;
         let mut lists = lists;
         lists.push(Items::of(items))?;

@@ -1,7 +1,7 @@
 ghost use Rattle.std.specs.Prelude.{ℕ, ◌≡◌, ◌≤◌, ◌+◌, ◌++◌, [], ◌∷◌, length, take, drop, replicate, Some, None, IfOk, IfErr, OnErr, vec_len, vec_capacity};
 ghost use Rattle.std.specs.Borrow.{sem};
 ghost use Rattle.brick_spec.specs.Item.{item_of};
-ghost use Rattle.pcap_io.specs.View.{entry_view, item_view};
+ghost use Rattle.pcap_io.specs.View.{entry_view, item_view, lent_view};
 ghost use Rattle.packet_owner.specs.Packet.{PacketModel, AreNested, IsWithin, place_view, here_of, header_of, payload_of, packet_item, parsed, deparsed};
 
 use crate::Buffer;
@@ -9,7 +9,7 @@ use crate::buffer::Block;
 use crate::meta::Meta;
 use crate::place::Place;
 use brick_base::{NoMemory, Proto, Raw};
-use pcap_io::{Entry, Frame, Item};
+use pcap_io::{Entry, Item, LentItem};
 use std::alloc::Global;
 use std::fmt;
 use std::marker::{Model, PhantomData};
@@ -316,19 +316,25 @@ impl<P: Proto> Packet<P> {
         self.block.slot
     }
 
-    /// The item of the packet, with a copy of its frame.
-    pub fn item(&self, alloc: Global) -> Result<Item, NoMemory>
-        ensures { IfOk result (λ i. item_view i ≡ packet_item self.now) }
+    /// The item of the packet, with its frame lent.
+    pub fn lend(&self) -> LentItem<'_>
+        ensures { lent_view result ≡ packet_item self.now }
     {
-        let frame = self.block.bytes[..self.block.len as usize].to_vec(alloc)?;
-        Ok(Item {
+        LentItem {
             a: self.block.meta.a,
             j: self.block.meta.j,
             seconds: self.block.meta.seconds,
             fraction: self.block.meta.fraction,
             original: self.block.meta.original,
-            frame: Frame::of(frame),
-        })
+            frame: self.frame(),
+        }
+    }
+
+    /// The item of the packet, with a copy of its frame.
+    pub fn item(&self, alloc: Global) -> Result<Item, NoMemory>
+        ensures { IfOk result (λ i. item_view i ≡ packet_item self.now) }
+    {
+        self.lend().to_item(alloc)
     }
 
     /// Its buffer. The frame is given up.

@@ -1,3 +1,5 @@
+pub mod Builder
+pub mod Frames
 pub mod Reading
 pub mod TextLaws
 pub mod View

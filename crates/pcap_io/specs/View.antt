@@ -9,6 +9,7 @@ use Rattle.pcap_io.specs.declared.entry.Entry.{Entry}
 use Rattle.pcap_io.specs.declared.fault.CaptureFault.{CaptureFault}
 use Rattle.pcap_io.specs.declared.fault.CaptureFault.TheVariants.{ShortHeader, Magic, Version, Link, CutRecord, LongRecord, NoMemory}
 use Rattle.pcap_io.specs.declared.item.Item.{Item}
+use Rattle.pcap_io.specs.declared.lent.LentItem.{LentItem}
 use Rattle.pcap_io.specs.declared.number.Order.{Order}
 use Rattle.pcap_io.specs.declared.number.Order.TheVariants.{Little, Big}
 use Rattle.pcap_io.specs.declared.record.Stuck.{Stuck}
@@ -20,6 +21,13 @@ entry_view e = record { seconds = e.seconds; fraction = e.fraction; original = e
 
 abbrev pub item_view : Item → items.Item
 item_view i = record { a = i.a; j = i.j; seconds = i.seconds; fraction = i.fraction; original = i.original; frame = i.frame }
+
+-- an item that owns what a lent one has
+abbrev pub own_item : LentItem → Item
+own_item l = record { a = l.a; j = l.j; seconds = l.seconds; fraction = l.fraction; original = l.original; frame = l.frame.now }
+
+abbrev pub lent_view : LentItem → items.Item
+lent_view l = item_view (own_item l)
 
 abbrev pub order_view : Order → bytes.Order
 order_view Little = bytes.Little

@@ -1,62 +1,7 @@
 ghost use Rattle.std.specs.Prelude.{◌≡◌};
 
+use crate::Frame;
 use std::marker::Model;
-
-/// The bytes of a frame, owned.
-#[derive(Drop, Debug)]
-pub struct Frame {
-    bytes: Vec<u8>,
-}
-
-impl Model for Frame {
-    ghost use Rattle.std.specs.Prelude.{List, ℕ};
-
-    ghost Value = { List ℕ };
-
-    ghost view = { λ f. f.bytes.items };
-}
-
-impl Frame {
-    /// A frame of these bytes. It takes no memory.
-    pub fn of(list: Vec<u8>) -> Frame
-        ensures { result ≡ list.items }
-    {
-        Frame { bytes: list }
-    }
-
-    /// The bytes, lent.
-    pub fn as_slice(&self) -> &[u8]
-        ensures { result.now ≡ self.now }
-    {
-        self.bytes.as_slice()
-    }
-
-    /// The bytes, with their room.
-    pub fn into_vec(self) -> Vec<u8>
-        ensures { result.items ≡ self }
-    {
-        let Frame { bytes } = self;
-        bytes
-    }
-}
-
-/// As `of`.
-impl From<Vec<u8>> for Frame {
-    ghost from_gives = { λ list frame. frame ≡ list.items };
-
-    fn from(list: Vec<u8>) -> Frame {
-        Frame::of(list)
-    }
-}
-
-/// As `into_vec`.
-impl From<Frame> for Vec<u8> {
-    ghost from_gives = { λ frame list. list.items ≡ frame };
-
-    fn from(frame: Frame) -> Vec<u8> {
-        frame.into_vec()
-    }
-}
 
 /// A frame with its key, its time and its length on the link: what a chain is given for a record, and what it gives.
 /// The key is `a` and then `j`; items stand in the order of their keys.

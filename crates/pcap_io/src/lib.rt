@@ -8,12 +8,15 @@
 //! promise; `written_is_capture` joins the two.
 #![tactic(auto)]
 
+mod builder;
 mod capture;
 mod entry;
 mod fault;
+mod frame;
 mod header;
 mod item;
 mod laws;
+mod lent;
 mod number;
 mod record;
 mod sent;
@@ -21,12 +24,15 @@ mod sent;
 mod tests;
 mod writer;
 
+pub use builder::ItemsBuilder;
 pub use capture::Capture;
 pub use entry::Entry;
 pub use fault::CaptureFault;
-pub use item::{Frame, Item, Items};
+pub use frame::Frame;
+pub use item::{Item, Items};
 pub use laws::{
     capture_is_unique, each_is_whole_or_faulty, fault_is_unique, foreign_capture_is_whole,
     none_is_whole_and_faulty, written_is_capture,
 };
+pub use lent::LentItem;
 pub use writer::{Writer, file_header, record_head};

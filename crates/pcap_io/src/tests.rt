@@ -1,4 +1,4 @@
-use crate::{Capture, CaptureFault, Frame, Item, Items, Writer};
+use crate::{Capture, CaptureFault, Frame, Item, Items, ItemsBuilder, LentItem, Writer};
 use std::alloc::{AllocError, Global};
 use std::process::Abort;
 use std::test::Fail;
@@ -230,5 +230,59 @@ fn writes(rt: HostRuntime) -> Result<(), Fail> {
     let items = Items::of(list);
     assert_eq!(rt; items.as_slice().len(), 1);
     assert_eq!(rt; items.into_vec().len(), 1);
+    Ok(())
+}
+
+/// An item of this key, with this frame.
+fn lent(a: u64, frame: &[u8]) -> LentItem<'_> {
+    LentItem {
+        a,
+        j: 0,
+        seconds: 1,
+        fraction: 2,
+        original: 60,
+        frame,
+    }
+}
+
+/// The items have these keys and these frames.
+fn items_are(rt: &impl Abort, items: &[Item], rows: &[(u64, &[u8])]) {
+    assert_eq!(rt; items.len(), rows.len());
+    for (item, (a, frame)) in items.iter().zip(rows) {
+        assert_eq!(rt; item.a, *a);
+        assert_eq!(rt; (item.seconds, item.fraction, item.original), (1, 2, 60));
+        assert_eq!(rt; item.frame.as_slice(), *frame);
+    }
+}
+
+#[test]
+fn frames_of_one_list(rt: HostRuntime) -> Result<(), Fail> {
+    let alloc = rt.alloc();
+    let none: &[u8] = &[];
+    let one: &[u8] = &[5];
+    let long = [7; 60];
+    let long = long.as_slice();
+
+    let mut builder = ItemsBuilder::new(alloc);
+    for (a, frame) in [(2, none), (0, long), (3, one), (1, none)] {
+        builder.push(lent(a, frame))?;
+    }
+    let text = format!(in alloc; "{builder:?}")?;
+    assert_eq!(rt; text.as_str(), "ItemsBuilder { count: 4, .. }");
+    let mut items = builder.into_items(alloc)?;
+    items_are(&rt, &items, &[(2, none), (0, long), (3, one), (1, none)]);
+    items.sort_by_key(|item| (item.a, item.j))?;
+    items_are(&rt, &items, &[(0, long), (1, none), (2, none), (3, one)]);
+
+    // the last frame keeps the memory of all
+    let Some(last) = items.pop() else {
+        return Err(Fail::from("no item"));
+    };
+    items.clear();
+    let copy = last.lend().to_item(alloc)?;
+    for item in [last, copy] {
+        let text = format!(in alloc; "{:?}", item.frame)?;
+        assert_eq!(rt; text.as_str(), "Frame { bytes: [5] }");
+    }
     Ok(())
 }

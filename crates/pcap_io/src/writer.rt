@@ -3,11 +3,11 @@ ghost use Rattle.brick_spec.specs.Bytes.{Little, four_bytes};
 ghost use Rattle.brick_spec.specs.Capture.{header_text, record_text};
 ghost use Rattle.brick_spec.specs.Item as spec;
 ghost use Rattle.brick_spec.specs.Item.{entry_of, items_text};
-ghost use Rattle.pcap_io.specs.View.{item_view};
+ghost use Rattle.pcap_io.specs.View.{item_view, lent_view};
 
-use crate::Item;
 use crate::header::{HEADER, magic_number};
 use crate::record::{HEAD, LONGEST};
+use crate::{Item, LentItem};
 use brick_base::NoMemory;
 use byteorder::{ByteOrder, LittleEndian};
 use std::alloc::Global;
@@ -56,17 +56,24 @@ fn low_length(bytes: &[u8]) -> u32
     (bytes.len() % 4_294_967_296) as u32
 }
 
-/// The four numbers of an item's record, which stand in front of its frame, little-endian. Of the captured length the lowest 32 bits are
-/// told, which is all of it up to 4,294,967,295 bytes.
+/// The four numbers of the record of an item whose frame is lent, as `record_head`.
 #[tactic(auto, unfolding(brick_spec::specs::Bytes::four_bytes))]
-pub fn record_head(item: &Item) -> [u8; 16]
-    ensures { result ≡ four_bytes Little item.now.seconds ++ (four_bytes Little item.now.fraction ++ (four_bytes Little (length item.now.frame) ++ four_bytes Little item.now.original)) }
+fn lent_head(item: LentItem<'_>) -> [u8; 16]
+    ensures { result ≡ four_bytes Little item.entry.seconds ++ (four_bytes Little item.entry.fraction ++ (four_bytes Little (length item.entry.frame.now) ++ four_bytes Little item.entry.original)) }
 {
-    let captured = low_length(item.frame.as_slice());
+    let captured = low_length(item.frame);
     let numbers = [item.seconds, item.fraction, captured, item.original];
     let mut head = [0; HEAD];
     LittleEndian::write_u32_into(&numbers, &mut head);
     head
+}
+
+/// The four numbers of an item's record, which stand in front of its frame, little-endian. Of the captured length the lowest 32 bits are
+/// told, which is all of it up to 4,294,967,295 bytes.
+pub fn record_head(item: &Item) -> [u8; 16]
+    ensures { result ≡ four_bytes Little item.now.seconds ++ (four_bytes Little item.now.fraction ++ (four_bytes Little (length item.now.frame) ++ four_bytes Little item.now.original)) }
+{
+    lent_head(item.lend())
 }
 
 impl Writer {
@@ -85,8 +92,18 @@ impl Writer {
         ensures text { OnOk result ((nano : Bool) (items : List spec.Item) → self.old ≡ items_text nano items → self.new ≡ items_text nano (items ++ item_view item.now ∷ [])) }
         ensures err { OnErr result (self.new ≡ self.old) }
     {
-        let head = record_head(item);
-        let frame = item.frame.as_slice();
+        self.append_lent(item.lend())
+    }
+
+    /// As `append`, of an item whose frame is lent.
+    pub fn append_lent(&mut self, item: LentItem<'_>) -> Result<(), NoMemory>
+        requires { length item.frame.now ≤ 262144 }
+        ensures ok { OnOk result (self.new ≡ self.old ++ record_text Little (entry_of (lent_view item.entry))) }
+        ensures text { OnOk result ((nano : Bool) (items : List spec.Item) → self.old ≡ items_text nano items → self.new ≡ items_text nano (items ++ lent_view item.entry ∷ [])) }
+        ensures err { OnErr result (self.new ≡ self.old) }
+    {
+        let head = lent_head(item);
+        let frame = item.frame;
         self.bytes.reserve(HEAD + frame.len())?;
         self.bytes.extend_from_slice(head.as_slice())?;
         self.bytes.extend_from_slice(frame)?;

@@ -1,5 +1,4 @@
 use Rattle.std.proofs.Common.{◌≡◌, refl, ℕ, ◌%◌, ◌/◌, ◌^◌, arith, List, [], ◌∷◌, length}
-use Rattle.std.specs.Int.{bytes_low_first, byte_at}
 use Rattle.brick_spec.specs.Bytes.{Little, four_bytes}
 use Rattle.pcap_io.proofs.writer.low_length.Goals as goal
 
