@@ -5,7 +5,8 @@ use Rattle.brick_spec.specs.FlowStage.{FlowStage, FlowInput, FlowOutput}
 use Rattle.batch_ops.specs.Operator.{Meaning}
 
 -- without one, each item passes
-abbrev pub MaybeStands : {O : Type 0} → (O → Flow → FlowInput → FlowOutput → Type 0) → Option O → Flow → FlowInput → FlowOutput → Type 0
+abbrev pub MaybeStands : {O : Type 0} → (O → Flow → FlowInput → FlowOutput → Type 0) → Option O → Flow → FlowInput
+    → FlowOutput → Type 0
 MaybeStands stands None flow came left = (left.passed ≡ came.items) × (left.dropped ≡ [])
 MaybeStands stands (Some o) flow came left = stands o flow came left
 

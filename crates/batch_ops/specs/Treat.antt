@@ -48,10 +48,13 @@ pub record Treats {S : Type 0} (k : Kind S) (old new : S) (class : Class) (p : P
   -- the packet keeps its key and its buffer
   pub kept : keyed (treated_packet r) ≡ keyed p
   -- what left is what the stage is told of the packet, and what is kept fits it too
-  pub on_item : was_lost r ≡ false → (before : List FlowItem) → k.fits old (flow_of class) before → left_in (added_by class.dir r) ≡ (k.stage old (flow_of class)).on_item before (work_item class p)
-  pub fits : was_lost r ≡ false → (before : List FlowItem) → k.fits old (flow_of class) before → k.fits new (flow_of class) (before ++ work_item class p ∷ [])
+  pub on_item : was_lost r ≡ false → (before : List FlowItem) → k.fits old (flow_of class) before
+      → left_in (added_by class.dir r) ≡ (k.stage old (flow_of class)).on_item before (work_item class p)
+  pub fits : was_lost r ≡ false → (before : List FlowItem) → k.fits old (flow_of class) before
+      → k.fits new (flow_of class) (before ++ work_item class p ∷ [])
   -- nothing changes at other flows
-  pub others : (other : Flow) (before : List FlowItem) → other.number ≢ class.flow → k.fits old other before → k.fits new other before
+  pub others : (other : Flow) (before : List FlowItem) → other.number ≢ class.flow → k.fits old other before
+      → k.fits new other before
   pub same : k.stage new ≡ k.stage old
   -- memory ran out where the packet was lost, and each one is lost from then on
   pub lost : k.failed new ≡ was_lost r
@@ -59,7 +62,8 @@ pub record Treats {S : Type 0} (k : Kind S) (old new : S) (class : Class) (p : P
 
 -- nothing is made of the end of a flow
 abbrev pub NoRest : {S : Type 0} → Kind S → Type 0
-NoRest {S} k = (s : S) (flow : Flow) (all : List FlowItem) (records : ℕ) → (k.stage s flow).at_end all records ≡ record { passed = []; dropped = [] }
+NoRest {S} k = (s : S) (flow : Flow) (all : List FlowItem) (records : ℕ)
+    → (k.stage s flow).at_end all records ≡ record { passed = []; dropped = [] }
 
 -- the value stands, at a flow, for what came and what left
 abbrev pub held_by : {S : Type 0} → Kind S → S → Flow → FlowInput → FlowOutput → Type 0
@@ -72,10 +76,12 @@ as_operator k = may_fail (held_by k) k.failed
 -- A ROW
 
 -- a list joins each two stages: what left the first came to the next
-abbrev pub RowHolds : {S : Type 0} → (S → Flow → FlowInput → FlowOutput → Type 0) → List S → Flow → FlowInput → FlowOutput → Type 0
+abbrev pub RowHolds : {S : Type 0} → (S → Flow → FlowInput → FlowOutput → Type 0) → List S → Flow → FlowInput
+    → FlowOutput → Type 0
 RowHolds stands [] flow came left = (left.passed ≡ came.items) × (left.dropped ≡ [])
 RowHolds stands (s ∷ ss) flow came left =
-    (mid : FlowOutput) × (rest : FlowOutput) × stands s flow came mid × RowHolds stands ss flow (record { items = mid.passed; ended = came.ended }) rest
+    (mid : FlowOutput) × (rest : FlowOutput) × stands s flow came mid
+    × RowHolds stands ss flow (record { items = mid.passed; ended = came.ended }) rest
     × (left.passed ≡ rest.passed) × IsPermutation left.dropped (mid.dropped ++ rest.dropped)
 
 -- the stages of a row, at a flow
@@ -94,12 +100,16 @@ in_row k stages failed = record {
 }
 
 -- what a row of stages did with a packet
-pub record RowTreats {S : Type 0} (k : Kind S) (old new : List S) (class : Class) (p : PacketModel) (r : Treated) : Type 0 where
+pub record RowTreats {S : Type 0} (k : Kind S) (old new : List S) (class : Class) (p : PacketModel)
+    (r : Treated) : Type 0 where
   pub kept : keyed (treated_packet r) ≡ keyed p
-  pub goes : was_lost r ≡ false → Extends (RowHolds (held_by k)) old new (flow_of class) (work_item class p ∷ []) None (left_in (added_by class.dir r))
+  pub goes : was_lost r ≡ false
+      → Extends (RowHolds (held_by k)) old new (flow_of class) (work_item class p
+      ∷ []) None (left_in (added_by class.dir r))
   pub others : OthersStay (RowHolds (held_by k)) old new (flow_of class)
   pub same : map k.stage new ≡ map k.stage old
 
 -- A row means what its stages mean one after another; what was dropped is in some order.
 abbrev pub RowMeansStages : {S : Type 0} → Kind S → Type 0
-RowMeansStages {S} k = (ss : List S) (flow : Flow) (came : FlowInput) (left : FlowOutput) → RowHolds (held_by k) ss flow came left → RowStands (stages_at k ss flow) came left
+RowMeansStages {S} k = (ss : List S) (flow : Flow) (came : FlowInput) (left : FlowOutput)
+    → RowHolds (held_by k) ss flow came left → RowStands (stages_at k ss flow) came left

@@ -14,7 +14,14 @@ ends_view e = record { src = e.src; sport = e.sport; dst = e.dst; dport = e.dpor
 
 -- the flow of a record of this class
 abbrev pub flow_of : Class → flow.Flow
-flow_of c = record { number = c.flow; opened = c.opened; rank = c.rank; hash = c.hash; first = ends_view c.first; other = c.other }
+flow_of c = record {
+  number = c.flow;
+  opened = c.opened;
+  rank = c.rank;
+  hash = c.hash;
+  first = ends_view c.first;
+  other = c.other;
+}
 
 abbrev pub class_view : Class → flow.Class
 class_view c = record { flow = flow_of c; dir = dir_view c.dir }

@@ -1,7 +1,8 @@
 -- A reason of the code as one of the definitions.
 use Rattle.brick_spec.specs.Stage as stage
 use Rattle.brick_base.specs.declared.drops.Reason.{Reason}
-use Rattle.brick_base.specs.declared.drops.Reason.TheVariants.{Big, Unparsed, Fire, NoRoute, Ttl, NatFull, Filter, NoGroup, Reach}
+use Rattle.brick_base.specs.declared.drops.Reason.TheVariants.{Big, Unparsed, Fire, NoRoute, Ttl, NatFull, Filter}
+use Rattle.brick_base.specs.declared.drops.Reason.TheVariants.{NoGroup, Reach}
 
 abbrev pub reason_view : Reason → stage.Reason
 reason_view Big = stage.Big

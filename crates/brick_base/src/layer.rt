@@ -18,7 +18,8 @@ pub trait Proto {
     /// The header's length, by the header of the layer before and by its payload.
     ghost length_of: { List ℕ → List ℕ → Option ℕ };
 
-    /// Where the payload ends, counted from the header's start, by the header and by how many bytes are there from its start on.
+    /// Where the payload ends, counted from the header's start, by the header and by how many bytes are there from its
+    /// start on.
     ghost extent_of: { List ℕ → ℕ → ℕ };
 
     /// How many headers stand before the payload of this layer, at most 8.
@@ -27,7 +28,8 @@ pub trait Proto {
     /// The fewest bytes that a header has.
     const LEAST: usize;
 
-    /// The header's length in bytes, where the layer is there. `outer` is the header of the layer before and `rest` its payload.
+    /// The header's length in bytes, where the layer is there. `outer` is the header of the layer before and `rest` its
+    /// payload.
     fn length(outer: &[u8], rest: &[u8]) -> Option<usize>
         ensures { result ≡ length_of outer.now rest.now };
 
@@ -40,10 +42,12 @@ pub trait Proto {
     ghost length_fits: { (outer rest : List ℕ) → IsLengthWithin LEAST (length_of outer rest) (length rest) };
 
     /// The same length is given where the payload is cut to it.
-    ghost length_of_cut: { (outer rest : List ℕ) (n : ℕ) → length_of outer rest ≡ Some n → length_of outer (take n rest) ≡ Some n };
+    ghost length_of_cut: { (outer rest : List ℕ) (n : ℕ) → length_of outer rest ≡ Some n
+        → length_of outer (take n rest) ≡ Some n };
 
     /// The payload ends behind the header and within what is there.
-    ghost extent_fits: { (header : List ℕ) (room : ℕ) → length header ≤ room → (length header ≤ extent_of header room) × (extent_of header room ≤ room) };
+    ghost extent_fits: { (header : List ℕ) (room : ℕ) → length header ≤ room
+        → (length header ≤ extent_of header room) × (extent_of header room ≤ room) };
 
     /// Layers stand at most eight deep.
     ghost depth_fits: { DEPTH ≤ 8 };

@@ -16,7 +16,8 @@ fn add_words(a: u16, b: u16) -> u16
     }
 }
 
-/// The Internet checksum (RFC 1071, section 1) of the bytes: words are big-endian, and an odd last byte is the high half of one.
+/// The Internet checksum (RFC 1071, section 1) of the bytes: words are big-endian, and an odd last byte is the high
+/// half of one.
 pub fn checksum(bytes: &[u8]) -> u16
     ensures { result ≡ checksum_of bytes.now }
 {

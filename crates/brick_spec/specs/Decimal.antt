@@ -1,5 +1,6 @@
 -- Decimal numbers in a text: ASCII digits without sign, of a number that is at most `most`.
-use Rattle.std.specs.Prelude.{ℕ, ◌+◌, ◌*◌, ◌-◌, ◌&&◌, ◌==◌, Bool, not, List, [], ◌∷◌, length, slice_index, Option, Some, None, if◌then◌else◌, nat_lt, nat_le}
+use Rattle.std.specs.Prelude.{ℕ, ◌+◌, ◌*◌, ◌-◌, ◌&&◌, ◌==◌, Bool, not, List, [], ◌∷◌, length, slice_index, Option, Some}
+use Rattle.std.specs.Prelude.{None, if◌then◌else◌, nat_lt, nat_le}
 
 -- what is read next from a value, where there is one
 infixl 10 ◌>>=◌

@@ -50,10 +50,12 @@ is_reversed Reversed = true
 abbrev pub opens : List Rule → Verdict → FlowItem → Bool
 opens rules default x = is_forward x.dir && allows rules default x
 
--- The stage: with `established`, an item that is reversed passes where an earlier one of its flow that goes forward was allowed.
--- Else the rules decide.
+-- The stage: with `established`, an item that is reversed passes where an earlier one of its flow that goes forward was
+-- allowed. Else the rules decide.
 abbrev pub firewall : Bool → List Rule → Verdict → FlowStage
 firewall established rules default = record {
-  on_item = λ before x. left_by x (if (established && (is_reversed x.dir && list_any (opens rules default) before)) || allows rules default x then Ok x.item else Err Fire);
+  on_item = λ before x. left_by x (if (established
+      && (is_reversed x.dir && list_any (opens rules default) before)) || allows rules default x then Ok x.item
+      else Err Fire);
   at_end = λ all n. nothing;
 }

@@ -9,9 +9,10 @@ use Rattle.run_spec.specs.Tenants.{TenantRan, TenantMay}
 use Rattle.run_report.specs.View.{line_view}
 use Rattle.run_report.specs.declared.report.Line.{Line}
 
--- It ran, and there is one line, which is not of a fault of reading; or memory ran out, and each of its files is untouched or holds a
--- prefix of its text.
+-- It ran, and there is one line, which is not of a fault of reading; or memory ran out, and each of its files is
+-- untouched or holds a prefix of its text.
 abbrev pub OneRan : Type 0 → List ℕ → Chain → Held → Held → Result (Vec Line) NoMemory → Type 0
 OneRan tells out chain before now (Ok lines) =
-    (line : report.Line) × (map line_view lines.items ≡ line ∷ []) × TenantRan tells out before.faults 0 chain [] before now line × (line.end ≢ report.ReadFault)
+    (line : report.Line) × (map line_view lines.items ≡ line ∷ [])
+    × TenantRan tells out before.faults 0 chain [] before now line × (line.end ≢ report.ReadFault)
 OneRan tells out chain before now (Err no_memory) = tells → TenantMay out 0 chain [] before.files now.files

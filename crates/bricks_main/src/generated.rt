@@ -1,4 +1,5 @@
-//! Mode `gen`: a capture and a chain file are made of a number, written, and run without lanes. Nothing is read from the store.
+//! Mode `gen`: a capture and a chain file are made of a number, written, and run without lanes. Nothing is read from
+//! the store.
 ghost use Rattle.std.specs.Prelude.{◌≡◌, ◌≢◌, ℕ, List, IsTrue};
 ghost use Rattle.brick_spec.specs.Cause.{writing_account};
 ghost use Rattle.words_spec.specs.AcceptedWords.{is_plain_folder};
@@ -24,7 +25,8 @@ fn run_one<S: Store>(
     out: &str,
 ) -> Result<Vec<Line>, NoMemory>
     ensures ran { (IsTrue S.tells → Captured (S.file store.old) (chain_view generated.chain).capture generated.capture)
-        → OneRan (IsTrue S.tells) out.now (chain_view generated.chain) (held (S.file store.old) (S.faults store.old)) (held (S.file store.new) (S.faults store.new)) result }
+        → OneRan (IsTrue S.tells) out.now (chain_view generated.chain) (held (S.file store.old) (S.faults store.old))
+        (held (S.file store.new) (S.faults store.new)) result }
     ensures others { (a : ℕ) (n : List ℕ) → a ≢ writing_account 0 → S.faults store.new a n ≡ S.faults store.old a n }
 {
     let Generated { chain, capture } = generated;
@@ -36,8 +38,8 @@ fn run_one<S: Store>(
     Ok(lines)
 }
 
-/// Makes the capture of the number and its chain file, writes them into the folder `out_dir`, runs the chain file's one tenant, writes its
-/// files, and gives the report to `out`. The answer is the exit status.
+/// Makes the capture of the number and its chain file, writes them into the folder `out_dir`, runs the chain file's one
+/// tenant, writes its files, and gives the report to `out`. The answer is the exit status.
 pub fn run_gen<S: Store, P: Sink>(
     alloc: Global,
     number: u64,

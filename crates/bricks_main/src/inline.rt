@@ -1,5 +1,5 @@
-//! A run without lanes: the chain file's tenants, from the files of a store to their files. All captures are read in order, and then the
-//! tenants are made and written one after another.
+//! A run without lanes: the chain file's tenants, from the files of a store to their files. All captures are read in
+//! order, and then the tenants are made and written one after another.
 ghost use Rattle.std.specs.Prelude.{◌≡◌, ◌≢◌, [], ◌≤◌, ◌<◌, ◌+◌, ◌*◌, ◌++◌, ℕ, List, OnOk, OnErr, IsTrue, length, map};
 ghost use Rattle.brick_spec.specs.Cause.{reading_account, writing_account};
 ghost use Rattle.chain_spec.specs.ChainSet as spec;
@@ -20,7 +20,8 @@ use store_io::Store;
 use tenant_files::{ChainsFault, TenantInput, read_chains, read_tenants, write_made};
 use tenant_run::make_tenant;
 
-/// Makes and writes a tenant, where its capture was read whole. After a fault of writing the rest of its files are not touched.
+/// Makes and writes a tenant, where its capture was read whole. After a fault of writing the rest of its files are not
+/// touched.
 pub(crate) fn run_tenant<S: Store>(
     alloc: Global,
     store: &mut S,
@@ -30,9 +31,11 @@ pub(crate) fn run_tenant<S: Store>(
     out: &str,
 ) -> Result<TenantEnd, NoMemory>
     requires { tenant < 16 }
-    ensures ran { RanOn (IsTrue S.tells) out.now tenant (chain_view chain.now) [] input.now (held (S.file store.old) (S.faults store.old)) (held (S.file store.new) (S.faults store.new)) result }
+    ensures ran { RanOn (IsTrue S.tells) out.now tenant (chain_view chain.now) [] input.now
+        (held (S.file store.old) (S.faults store.old)) (held (S.file store.new) (S.faults store.new)) result }
     ensures later { (a : ℕ) (n : List ℕ) → S.faults store.old a n ≤ S.faults store.new a n }
-    ensures others { (a : ℕ) (n : List ℕ) → a ≢ writing_account tenant → S.faults store.new a n ≡ S.faults store.old a n }
+    ensures others { (a : ℕ) (n : List ℕ) → a ≢ writing_account tenant
+        → S.faults store.new a n ≡ S.faults store.old a n }
 {
     match input {
         TenantInput::TooLong => Ok(TenantEnd::TooLong),
@@ -45,7 +48,8 @@ pub(crate) fn run_tenant<S: Store>(
     }
 }
 
-/// Makes and writes these tenants, which are numbered from `tenant`, one after another, and puts a line of each behind the others.
+/// Makes and writes these tenants, which are numbered from `tenant`, one after another, and puts a line of each behind
+/// the others.
 fn run_tenants<S: Store>(
     alloc: Global,
     store: &mut S,
@@ -56,13 +60,21 @@ fn run_tenants<S: Store>(
     lines: &mut Vec<Line>,
 ) -> Result<(), NoMemory>
     requires few { tenant + length chains.now ≤ 16 }
-    ensures ran { (first : Held) → CanRun (IsTrue S.tells) out.now tenant (map chain_view chains.now) first (held (S.file store.old) (S.faults store.old)) inputs.now
-        → OnOk result ((told : List report.Line) × (map line_view lines.new.items ≡ map line_view lines.old.items ++ told)
-        × TenantsRan (IsTrue S.tells) out.now first.faults none_refused tenant (map chain_view chains.now) (held (S.file store.old) (S.faults store.old)) (held (S.file store.new) (S.faults store.new)) told) }
-    ensures may { (first : Held) → CanRun (IsTrue S.tells) out.now tenant (map chain_view chains.now) first (held (S.file store.old) (S.faults store.old)) inputs.now
-        → OnErr result (IsTrue S.tells → TenantsMay out.now none_refused tenant (map chain_view chains.now) (S.file store.old) (S.file store.new)) }
+    ensures ran { (first : Held)
+        → CanRun (IsTrue S.tells) out.now tenant (map chain_view chains.now) first
+        (held (S.file store.old) (S.faults store.old)) inputs.now
+        → OnOk result ((told : List report.Line)
+        × (map line_view lines.new.items ≡ map line_view lines.old.items ++ told)
+        × TenantsRan (IsTrue S.tells) out.now first.faults none_refused tenant (map chain_view chains.now)
+        (held (S.file store.old) (S.faults store.old)) (held (S.file store.new) (S.faults store.new)) told) }
+    ensures may { (first : Held)
+        → CanRun (IsTrue S.tells) out.now tenant (map chain_view chains.now) first
+        (held (S.file store.old) (S.faults store.old)) inputs.now
+        → OnErr result (IsTrue S.tells
+        → TenantsMay out.now none_refused tenant (map chain_view chains.now) (S.file store.old) (S.file store.new)) }
     ensures later { (a : ℕ) (n : List ℕ) → S.faults store.old a n ≤ S.faults store.new a n }
-    ensures others { (a : ℕ) (n : List ℕ) → 2 * (tenant + length chains.now) < a → S.faults store.new a n ≡ S.faults store.old a n }
+    ensures others { (a : ℕ) (n : List ℕ) → 2 * (tenant + length chains.now) < a
+        → S.faults store.new a n ≡ S.faults store.old a n }
 {
     let Some((chain, more_chains)) = chains.split_first() else {
         return Ok(());
@@ -94,8 +106,10 @@ fn run_set<S: Store>(
 ) -> Result<Vec<Line>, NoMemory>
     requires few { length chains.now ≤ 16 }
     requires apart { AllApart out.now (map chain_view chains.now) }
-    ensures ran { AllRan (IsTrue S.tells) out.now none_refused (map chain_view chains.now) (held (S.file store.old) (S.faults store.old)) (held (S.file store.new) (S.faults store.new)) result }
-    ensures others { (a : ℕ) (n : List ℕ) → 2 * length chains.now < a → S.faults store.new a n ≡ S.faults store.old a n }
+    ensures ran { AllRan (IsTrue S.tells) out.now none_refused (map chain_view chains.now)
+        (held (S.file store.old) (S.faults store.old)) (held (S.file store.new) (S.faults store.new)) result }
+    ensures others { (a : ℕ) (n : List ℕ) → 2 * length chains.now < a
+        → S.faults store.new a n ≡ S.faults store.old a n }
 {
     let mut inputs = Vec::with_capacity(alloc, chains.len())?;
     let mut lines = Vec::with_capacity(alloc, chains.len())?;

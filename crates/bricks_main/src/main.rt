@@ -31,8 +31,8 @@ use std::sync::Wait;
 use std::thread::Threads;
 use store_io::{FileStore, OutSink};
 
-/// The words after the program's name, run over the files and the standard output of the system, with lanes on tables. The answer is the
-/// exit status.
+/// The words after the program's name, run over the files and the standard output of the system, with lanes on tables.
+/// The answer is the exit status.
 fn run_system<R: Threads + Wait + Sync>(rt: &HostRuntime, threads: &R) -> u8 {
     let mut out = OutSink::new(rt);
     let words = match env::args(rt) {
@@ -55,7 +55,8 @@ fn exit_code(status: u8) -> ExitCode
     ExitCode::from(status)
 }
 
-/// Runs the words after the program's name over the files and the standard output of the system, and ends with the answer.
+/// Runs the words after the program's name over the files and the standard output of the system, and ends with the
+/// answer.
 fn main(rt: HostRuntime) -> ExitCode {
     exit_code(run_system(&rt, &rt))
 }

@@ -47,7 +47,9 @@ pub fn tell_no_memory<P: Sink>(sink: &mut P) -> u8
 pub(crate) fn tell<P: Sink>(alloc: Global, sink: &mut P, outcome: &Outcome) -> u8
     ensures told { Told (outcome_view outcome.now) result }
     ensures fault { result ≡ 5 → Rose (P.faults sink.old) (P.faults sink.new) }
-    ensures shown { IsTrue P.tells → Shown (outcome_view outcome.now) (printed (P.written sink.old) (P.faults sink.old)) (printed (P.written sink.new) (P.faults sink.new)) result }
+    ensures shown { IsTrue P.tells
+        → Shown (outcome_view outcome.now) (printed (P.written sink.old) (P.faults sink.old))
+        (printed (P.written sink.new) (P.faults sink.new)) result }
 {
     let Ok(text) = outcome_text(alloc, outcome) else {
         return tell_no_memory(sink);
@@ -65,16 +67,19 @@ pub(crate) fn tell<P: Sink>(alloc: Global, sink: &mut P, outcome: &Outcome) -> u
     }
 }
 
-/// Tells how the program is used, for words that are no line. The answer is the exit status 2, or 6 where memory ran out.
+/// Tells how the program is used, for words that are no line. The answer is the exit status 2, or 6 where memory ran
+/// out.
 pub fn tell_usage<P: Sink>(alloc: Global, sink: &mut P) -> u8
     ensures told { Told Usage result }
-    ensures shown { IsTrue P.tells → Shown Usage (printed (P.written sink.old) (P.faults sink.old)) (printed (P.written sink.new) (P.faults sink.new)) result }
+    ensures shown { IsTrue P.tells
+        → Shown Usage (printed (P.written sink.old) (P.faults sink.old))
+        (printed (P.written sink.new) (P.faults sink.new)) result }
 {
     tell(alloc, sink, &Outcome::Usage)
 }
 
-/// Runs the tenants of the chain file `chains`, writes their files into the folder `out_dir`, and gives the report to `out`.
-/// The answer is the exit status.
+/// Runs the tenants of the chain file `chains`, writes their files into the folder `out_dir`, and gives the report to
+/// `out`. The answer is the exit status.
 pub fn run_inline<S: Store, P: Sink>(
     alloc: Global,
     chains: &str,
@@ -90,8 +95,8 @@ pub fn run_inline<S: Store, P: Sink>(
     tell(alloc, out, &outcome)
 }
 
-/// Reads the chain file `chains`, for the folder `out_dir`, and tells `out` whether it is accepted. No file is made or changed. The
-/// answer is the exit status.
+/// Reads the chain file `chains`, for the folder `out_dir`, and tells `out` whether it is accepted. No file is made or
+/// changed. The answer is the exit status.
 pub fn run_check<S: Store, P: Sink>(
     alloc: Global,
     chains: &str,
@@ -107,8 +112,9 @@ pub fn run_check<S: Store, P: Sink>(
     tell(alloc, out, &outcome)
 }
 
-/// Runs the tenants of the chain file `chains` over lanes and so many workers, writes their files into the folder `out_dir`, and gives the
-/// report to `out`. The answer is the exit status. The lanes are those of the kit, and are shut when it is given.
+/// Runs the tenants of the chain file `chains` over lanes and so many workers, writes their files into the folder
+/// `out_dir`, and gives the report to `out`. The answer is the exit status. The lanes are those of the kit, and are
+/// shut when it is given.
 pub fn run_lanes<S: Store, P: Sink, K: LaneKit, R: Threads + Wait + Sync>(
     rt: &R,
     alloc: Global,
@@ -170,8 +176,8 @@ fn run_line<S: Store, P: Sink, K: LaneKit, R: Threads + Wait + Sync>(
     }
 }
 
-/// Does what the words say, which are those after the program's name. The answer is the exit status. Mode `run` takes its lanes from the
-/// kit; the other modes leave it as it is.
+/// Does what the words say, which are those after the program's name. The answer is the exit status. Mode `run` takes
+/// its lanes from the kit; the other modes leave it as it is.
 pub fn run_words<S: Store, P: Sink, K: LaneKit, R: Threads + Wait + Sync>(
     rt: &R,
     alloc: Global,
@@ -198,11 +204,13 @@ pub fn run_words<S: Store, P: Sink, K: LaneKit, R: Threads + Wait + Sync>(
         → CheckPromises (IsTrue S.tells) (IsTrue P.tells) line.chains line.out
         (seen (S.file store.old) (S.faults store.old) (P.written out.old) (P.faults out.old))
         (seen (S.file store.new) (S.faults store.new) (P.written out.new) (P.faults out.new)) result }
-    ensures generated { (line : Line) (number : ℕ) → line_of (map string_bytes words.now) ≡ Some line → line.mode ≡ Gen → generated_number line.chains ≡ Some number
+    ensures generated { (line : Line) (number : ℕ) → line_of (map string_bytes words.now) ≡ Some line → line.mode ≡ Gen
+        → generated_number line.chains ≡ Some number
         → GeneratorPromises (IsTrue S.tells) (IsTrue P.tells) number line.out
         (seen (S.file store.old) (S.faults store.old) (P.written out.old) (P.faults out.old))
         (seen (S.file store.new) (S.faults store.new) (P.written out.new) (P.faults out.new)) result }
-    ensures books { ((line : Line) → line_of (map string_bytes words.now) ≡ Some line → line.mode ≢ Run) → K.books kit.new ≡ K.books kit.old }
+    ensures books { ((line : Line) → line_of (map string_bytes words.now) ≡ Some line → line.mode ≢ Run)
+        → K.books kit.new ≡ K.books kit.old }
     ensures open_lanes { K.open_lanes kit.new ≡ K.open_lanes kit.old }
 {
     match read_words(alloc, words) {

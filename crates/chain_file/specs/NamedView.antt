@@ -8,7 +8,12 @@ use Rattle.chain_file.specs.declared.named_leaf.NamedBelow.{NamedBelow}
 use Rattle.chain_file.specs.declared.named_leaf.NamedBelow.TheVariants as below
 
 abbrev pub named_leaf_view : NamedLeaf → spec.NamedLeaf
-named_leaf_view l = record { name = l.name; wanted = option_map match_view l.wanted; stages = stages_view l.stages.items; into = l.into }
+named_leaf_view l = record {
+  name = l.name;
+  wanted = option_map match_view l.wanted;
+  stages = stages_view l.stages.items;
+  into = l.into;
+}
 
 abbrev pub named_leaves_view : List NamedLeaf → List spec.NamedLeaf
 named_leaves_view = map named_leaf_view

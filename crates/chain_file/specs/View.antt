@@ -11,10 +11,20 @@ use Rattle.chain_file.specs.declared.named.NamedGroup.{NamedGroup}
 use Rattle.chain_file.specs.declared.named.Settings.{Settings}
 
 abbrev pub named_view : NamedGroup → spec.NamedGroup
-named_view g = record { name = g.name; wanted = option_map match_view g.wanted; stages = stages_view g.stages.items; below = named_below_view g.below }
+named_view g = record {
+  name = g.name;
+  wanted = option_map match_view g.wanted;
+  stages = stages_view g.stages.items;
+  below = named_below_view g.below;
+}
 
 abbrev pub settings_view : Settings → spec.Settings
-settings_view s = record { buffers = s.buffers; bytes = s.bytes; dry = dry_view s.dry; unparsed = unparsed_view s.unparsed }
+settings_view s = record {
+  buffers = s.buffers;
+  bytes = s.bytes;
+  dry = dry_view s.dry;
+  unparsed = unparsed_view s.unparsed;
+}
 
 abbrev pub group_names : List NamedGroup → List (List ℕ)
 group_names groups = map (λ g. g.name) (map named_view groups)

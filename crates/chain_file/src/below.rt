@@ -34,7 +34,8 @@ pub(crate) fn below_at(
     value: Option<&Value>,
 ) -> Result<NamedBelow, ChainFault>
     requires { IsTrue (is_name into) }
-    ensures value { Gives named_below_view result (spec.below_at place has_into into (option_map (λ v. view v.now) value.entry)) }
+    ensures value { Gives named_below_view result
+        (spec.below_at place has_into into (option_map (λ v. view v.now) value.entry)) }
     ensures right { IfOk result (λ b. IsTrue (is_named_below_right (named_below_view b))) }
 {
     let Some(value) = value else {

@@ -39,7 +39,8 @@ fn taken_of(
     chains: &[Chain],
     chain: &Chain,
 ) -> Result<Option<Name>, NoMemory>
-    ensures { IfOk result (λ taken. taken ≡ spec.first_taken (own.now ∷ chain_captures chains.now) (file_names out.now (chain_view chain.now))) }
+    ensures { IfOk result (λ taken. taken
+        ≡ spec.first_taken (own.now ∷ chain_captures chains.now) (file_names out.now (chain_view chain.now))) }
 {
     for output in &chain.outputs {
         let file = output_file(alloc, out, chain.name.as_str(), output.as_str())?;
@@ -63,7 +64,8 @@ fn first_taken(
     out: &str,
     chains: &[Chain],
 ) -> Result<Option<Name>, NoMemory>
-    ensures { IfOk result (λ taken. taken ≡ spec.first_taken (own.now ∷ chain_captures chains.now) (run_files out.now (map chain_view chains.now))) }
+    ensures { IfOk result (λ taken. taken
+        ≡ spec.first_taken (own.now ∷ chain_captures chains.now) (run_files out.now (map chain_view chains.now))) }
 {
     for chain in chains {
         let taken = taken_of(alloc, own, out, chains, chain)?;
@@ -78,7 +80,8 @@ fn first_taken(
 #[tactic(auto, unfolding(chain_spec::specs::ChainWalk::apart))]
 pub(crate) fn apart(alloc: Global, own: &str, out: &str, chains: &[Chain]) -> Result<(), ChainFault>
     ensures value { Gives (λ _. tt) result (spec.apart own.now out.now (map chain_view chains.now)) }
-    ensures none { OnOk result (spec.first_taken (own.now ∷ chain_captures chains.now) (run_files out.now (map chain_view chains.now)) ≡ None) }
+    ensures none { OnOk result (spec.first_taken (own.now
+        ∷ chain_captures chains.now) (run_files out.now (map chain_view chains.now)) ≡ None) }
 {
     match first_taken(alloc, own, out, chains)? {
         Some(name) => Err(ChainFault::Collides { name }),

@@ -1,6 +1,7 @@
 //! What joins the parts of a tenant: a plan beside stages `nat`, and at most one `window` on each path.
 
-ghost use Rattle.std.specs.Prelude.{◌≡◌, ◌<◌, ◌+◌, ◌^◌, ◌++◌, ◌&&◌, not, is_some, map, nat_le, option_map, if◌then◌else◌};
+ghost use Rattle.std.specs.Prelude.{◌≡◌, ◌<◌, ◌+◌, ◌^◌, ◌++◌, ◌&&◌, not, is_some, map, nat_le, option_map};
+ghost use Rattle.std.specs.Prelude.{if◌then◌else◌};
 ghost use Rattle.std.specs.List.{list_any, list_all};
 ghost use Rattle.chain_spec.specs.ChainSet as spec;
 ghost use Rattle.flow_key.specs.View.{plan_view};
@@ -39,13 +40,15 @@ fn is_pair_with_nat(stages: &[Stage], more: &[Stage]) -> bool
 
 #[tactic(auto, using(crate::proofs::Paths::any_triple))]
 fn has_leaf_nat(stages: &[Stage], more: &[Stage], leaf: &Leaf) -> bool
-    ensures { result ≡ list_any spec.is_nat ((stages_view stages.now ++ stages_view more.now) ++ (leaf_view leaf.now).stages) }
+    ensures { result ≡ list_any spec.is_nat ((stages_view stages.now ++ stages_view more.now)
+        ++ (leaf_view leaf.now).stages) }
 {
     is_pair_with_nat(stages, more) || has_nat_in(&leaf.stages)
 }
 
 fn have_leaves_nat(stages: &[Stage], more: &[Stage], leaves: &[Leaf]) -> bool
-    ensures { result ≡ list_any (list_any spec.is_nat) (map (λ l. (stages_view stages.now ++ stages_view more.now) ++ l.stages) (map leaf_view leaves.now)) }
+    ensures { result ≡ list_any (list_any spec.is_nat) (map (λ l. (stages_view stages.now ++ stages_view more.now)
+        ++ l.stages) (map leaf_view leaves.now)) }
 {
     for leaf in leaves {
         if has_leaf_nat(stages, more, leaf) {
@@ -56,7 +59,8 @@ fn have_leaves_nat(stages: &[Stage], more: &[Stage], leaves: &[Leaf]) -> bool
 }
 
 fn has_group_nat(stages: &[Stage], group: &Group) -> bool
-    ensures { result ≡ list_any (list_any spec.is_nat) (spec.paths_below (stages_view stages.now ++ (group_view group.now).stages) (group_view group.now).below) }
+    ensures { result ≡ list_any (list_any spec.is_nat) (spec.paths_below (stages_view stages.now
+        ++ (group_view group.now).stages) (group_view group.now).below) }
 {
     match &group.below {
         Below::Output(_) => is_pair_with_nat(stages, &group.stages),
@@ -67,7 +71,8 @@ fn has_group_nat(stages: &[Stage], group: &Group) -> bool
 /// Whether a stage `nat` stands on a path.
 #[tactic(auto, using(crate::proofs::Paths::any_through))]
 fn has_nat(stages: &[Stage], groups: &[Group]) -> bool
-    ensures { result ≡ list_any (list_any spec.is_nat) (spec.paths_through (stages_view stages.now) (map group_view groups.now)) }
+    ensures { result ≡ list_any (list_any spec.is_nat)
+        (spec.paths_through (stages_view stages.now) (map group_view groups.now)) }
 {
     for group in groups {
         if has_group_nat(stages, group) {
@@ -79,7 +84,9 @@ fn has_nat(stages: &[Stage], groups: &[Group]) -> bool
 
 /// Whether a stage `nat` stands on a path, and there is no plan.
 pub(crate) fn lacks_plan(nat: &Option<NatPlan>, stages: &[Stage], groups: &[Group]) -> bool
-    ensures { result ≡ (list_any (list_any spec.is_nat) (spec.paths_through (stages_view stages.now) (map group_view groups.now)) && not (is_some (option_map plan_view nat.now))) }
+    ensures { result ≡ (list_any (list_any spec.is_nat)
+        (spec.paths_through (stages_view stages.now) (map group_view groups.now))
+        && not (is_some (option_map plan_view nat.now))) }
 {
     has_nat(stages, groups) && nat.is_none()
 }
@@ -126,7 +133,8 @@ fn has_pair_one_window(stages: &[Stage], more: &[Stage]) -> bool
 
 #[tactic(auto, using(crate::proofs::Paths::windows_triple))]
 fn has_leaf_one_window(stages: &[Stage], more: &[Stage], leaf: &Leaf) -> bool
-    ensures { result ≡ nat_le (spec.windows_in ((stages_view stages.now ++ stages_view more.now) ++ (leaf_view leaf.now).stages)) 1 }
+    ensures { result ≡ nat_le (spec.windows_in ((stages_view stages.now ++ stages_view more.now)
+        ++ (leaf_view leaf.now).stages)) 1 }
 {
     let first = windows_in(stages);
     let second = windows_in(more);
@@ -135,7 +143,8 @@ fn has_leaf_one_window(stages: &[Stage], more: &[Stage], leaf: &Leaf) -> bool
 }
 
 fn have_leaves_one_window(stages: &[Stage], more: &[Stage], leaves: &[Leaf]) -> bool
-    ensures { result ≡ list_all (λ path. nat_le (spec.windows_in path) 1) (map (λ l. (stages_view stages.now ++ stages_view more.now) ++ l.stages) (map leaf_view leaves.now)) }
+    ensures { result ≡ list_all (λ path. nat_le (spec.windows_in path) 1) (map (λ l. (stages_view stages.now
+        ++ stages_view more.now) ++ l.stages) (map leaf_view leaves.now)) }
 {
     for leaf in leaves {
         if !has_leaf_one_window(stages, more, leaf) {
@@ -146,7 +155,8 @@ fn have_leaves_one_window(stages: &[Stage], more: &[Stage], leaves: &[Leaf]) -> 
 }
 
 fn has_group_one_window(stages: &[Stage], group: &Group) -> bool
-    ensures { result ≡ list_all (λ path. nat_le (spec.windows_in path) 1) (spec.paths_below (stages_view stages.now ++ (group_view group.now).stages) (group_view group.now).below) }
+    ensures { result ≡ list_all (λ path. nat_le (spec.windows_in path) 1) (spec.paths_below (stages_view stages.now
+        ++ (group_view group.now).stages) (group_view group.now).below) }
 {
     match &group.below {
         Below::Output(_) => has_pair_one_window(stages, &group.stages),
@@ -157,7 +167,8 @@ fn has_group_one_window(stages: &[Stage], group: &Group) -> bool
 /// Whether at most one `window` stands on each path.
 #[tactic(auto, using(crate::proofs::Paths::all_through))]
 pub(crate) fn has_one_window(stages: &[Stage], groups: &[Group]) -> bool
-    ensures { result ≡ list_all (λ path. nat_le (spec.windows_in path) 1) (spec.paths_through (stages_view stages.now) (map group_view groups.now)) }
+    ensures { result ≡ list_all (λ path. nat_le (spec.windows_in path) 1)
+        (spec.paths_through (stages_view stages.now) (map group_view groups.now)) }
 {
     for group in groups {
         if !has_group_one_window(stages, group) {

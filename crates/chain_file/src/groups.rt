@@ -52,7 +52,8 @@ fn group_values(
     before: &[NamedGroup],
     table: &Table,
 ) -> Result<NamedGroup, ChainFault>
-    ensures value { Gives named_view result (spec.group_values version place (map named_view before.now) (table_view table.now)) }
+    ensures value { Gives named_view result
+        (spec.group_values version place (map named_view before.now) (table_view table.now)) }
     ensures fresh { IfOk result (λ g. is_among g.name (group_names before.now) ≡ false) }
 {
     known_in_group(alloc, version, place, table)?;
@@ -94,7 +95,8 @@ fn groups(
     place: u32,
     array: &Array,
 ) -> Result<Vec<NamedGroup>, ChainFault>
-    ensures value { Gives (λ v. map named_view v.items) result (fields.each (spec.group_at version place) (array_view array.now)) }
+    ensures value { Gives (λ v. map named_view v.items) result
+        (fields.each (spec.group_at version place) (array_view array.now)) }
     ensures len { IfOk result (λ v. vec_len v ≡ vec_len array.now) }
     ensures distinct { IfOk result (λ v. IsTrue (are_distinct (group_names v.items))) }
 {

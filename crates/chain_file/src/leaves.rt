@@ -61,7 +61,8 @@ pub(crate) fn leaf_values(
     earlier: &[&str],
     table: &Table,
 ) -> Result<NamedLeaf, ChainFault>
-    ensures value { Gives named_leaf_view result (spec.leaf_values place (map (λ x. x.now) earlier.now) (table_view table.now)) }
+    ensures value { Gives named_leaf_view result
+        (spec.leaf_values place (map (λ x. x.now) earlier.now) (table_view table.now)) }
     ensures fresh { IfOk result (λ l. is_among l.name (map (λ x. x.now) earlier.now) ≡ false) }
 {
     let name = required(alloc, place, "name", table)?;

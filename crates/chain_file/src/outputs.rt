@@ -39,7 +39,8 @@ fn add_name(alloc: Global, names: &mut Vec<Name>, name: &str) -> Result<(), NoMe
 }
 
 fn add_leaves(alloc: Global, names: &mut Vec<Name>, leaves: &[NamedLeaf]) -> Result<(), NoMemory>
-    ensures { OnOk result (names.new.items ≡ spec.distinct_after names.old.items (map (λ l. l.into) (named_leaves_view leaves.now))) }
+    ensures { OnOk result (names.new.items
+        ≡ spec.distinct_after names.old.items (map (λ l. l.into) (named_leaves_view leaves.now))) }
 {
     for leaf in leaves {
         add_name(alloc, names, leaf.into.as_str())?;
@@ -49,7 +50,8 @@ fn add_leaves(alloc: Global, names: &mut Vec<Name>, leaves: &[NamedLeaf]) -> Res
 
 /// Puts the outputs of a group behind the names, each where it is not among them.
 fn add_below(alloc: Global, names: &mut Vec<Name>, below: &NamedBelow) -> Result<(), NoMemory>
-    ensures { OnOk result (names.new.items ≡ spec.distinct_after names.old.items (spec.outputs_below (named_below_view below.now))) }
+    ensures { OnOk result (names.new.items
+        ≡ spec.distinct_after names.old.items (spec.outputs_below (named_below_view below.now))) }
 {
     match below {
         NamedBelow::Into(name) => add_name(alloc, names, name.as_str()),
@@ -89,7 +91,13 @@ fn place_of(names: &[Name], name: &str) -> u32
 
 /// The group with the place of its output.
 fn with_place(leaf: NamedLeaf, output: u32) -> Leaf
-    ensures { leaf_view result ≡ record { name = leaf.name; wanted = option_map match_view leaf.wanted; stages = stages_view leaf.stages.items; output = output } }
+    ensures { leaf_view result
+        ≡ record {
+          name = leaf.name;
+          wanted = option_map match_view leaf.wanted;
+          stages = stages_view leaf.stages.items;
+          output = output;
+        } }
 {
     let NamedLeaf {
         name,
@@ -113,7 +121,8 @@ fn leaves_with(
 ) -> Result<Vec<Leaf>, NoMemory>
     requires some { 0 < length outputs.now }
     requires few { length outputs.now ≤ 64 }
-    ensures { IfOk result (λ v. map leaf_view v.items ≡ map (spec.leaf_with outputs.now) (named_leaves_view named.items)) }
+    ensures { IfOk result (λ v. map leaf_view v.items
+        ≡ map (spec.leaf_with outputs.now) (named_leaves_view named.items)) }
 {
     let mut leaves = Vec::new(alloc);
     for leaf in named {
@@ -166,7 +175,8 @@ pub(crate) fn groups_with(
 ) -> Result<Vec<Group>, NoMemory>
     requires some { 0 < length outputs.now }
     requires few { length outputs.now ≤ 64 }
-    ensures value { IfOk result (λ v. map group_view v.items ≡ map (spec.group_with outputs.now) (map named_view named.items)) }
+    ensures value { IfOk result (λ v. map group_view v.items
+        ≡ map (spec.group_with outputs.now) (map named_view named.items)) }
     ensures len { IfOk result (λ v. length v.items ≡ length named.items) }
 {
     let mut groups = Vec::new(alloc);

@@ -31,18 +31,20 @@ impl Model for ChainSet {
 
     ghost view = { λ set. set.chains.items };
 
-    ghost invariant = { λ set. (1 ≤ length set.chains.items) × (length set.chains.items ≤ 16) × IsTrue (are_distinct (chain_names set.chains.items)) };
+    ghost invariant = { λ set. (1 ≤ length set.chains.items) × (length set.chains.items ≤ 16)
+        × IsTrue (are_distinct (chain_names set.chains.items)) };
 }
 
 impl ChainSet {
-    /// The chains that the bytes of the chain file `own` give for the folder `out`, or the first fault. The bytes are at most
-    /// 1,048,576.
+    /// The chains that the bytes of the chain file `own` give for the folder `out`, or the first fault. The bytes are
+    /// at most 1,048,576.
     #[tactic(auto, unfolding(chain_spec::specs::ChainWalk::read_chains))]
     pub fn read(alloc: Global, bytes: &[u8], own: &str, out: &str) -> Result<ChainSet, ChainFault>
         ensures value { Gives (map chain_view) result (spec.read_chains own.now out.now bytes.now) }
         ensures most { IfOk result (λ set. length set ≤ spec.most_tenants) }
         ensures distinct { IfOk result (λ set. IsTrue (are_distinct (chain_names set))) }
-        ensures apart { IfOk result (λ set. spec.first_taken (own.now ∷ chain_captures set) (run_files out.now (map chain_view set)) ≡ None) }
+        ensures apart { IfOk result (λ set. spec.first_taken (own.now
+            ∷ chain_captures set) (run_files out.now (map chain_view set)) ≡ None) }
     {
         let table = table_of(alloc, bytes)?;
         let chains = top(alloc, &table)?;

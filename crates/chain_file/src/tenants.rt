@@ -49,7 +49,8 @@ fn has_tenant(chains: &[Chain], name: &str) -> bool
 /// A name that no earlier tenant has.
 #[tactic(auto, unfolding(chain_spec::specs::Fields::name_in))]
 fn name_in(alloc: Global, place: u32, earlier: &[Chain], value: &Value) -> Result<Name, ChainFault>
-    ensures value { Gives (λ n. n) result (fields.name_in place (codes "name") (chain_names earlier.now) (view value.now)) }
+    ensures value { Gives (λ n. n) result
+        (fields.name_in place (codes "name") (chain_names earlier.now) (view value.now)) }
     ensures named { IfOk result (λ n. IsTrue (is_name n)) }
     ensures fresh { IfOk result (λ n. is_among n (chain_names earlier.now) ≡ false) }
 {
@@ -111,7 +112,8 @@ fn tenant_groups(
     place: u32,
     table: &Table,
 ) -> Result<Vec<NamedGroup>, ChainFault>
-    ensures value { Gives (λ v. map named_view v.items) result (spec.tenant_groups version place (table_view table.now)) }
+    ensures value { Gives (λ v. map named_view v.items) result
+        (spec.tenant_groups version place (table_view table.now)) }
     ensures count { IfOk result (λ v. (1 ≤ length v.items) × (length v.items ≤ 16)) }
     ensures distinct { IfOk result (λ v. IsTrue (are_distinct (group_names v.items))) }
 {
@@ -130,7 +132,8 @@ fn tenant_keys(alloc: Global, place: u32, table: &Table) -> Result<(), ChainFaul
     known(alloc, place, row.as_slice(), table)
 }
 
-/// The chain of these parts: Missing where a stage `nat` has no plan, and then SecondWindow where a path has more than one `window`.
+/// The chain of these parts: Missing where a stage `nat` has no plan, and then SecondWindow where a path has more than
+/// one `window`.
 #[tactic(auto, unfolding(chain_spec::specs::ChainWalk::fits, chain_spec::specs::ChainSet::chain_of))]
 fn fits(
     alloc: Global,
@@ -148,7 +151,9 @@ fn fits(
     requires count { (1 ≤ length named.items) × (length named.items ≤ 16) }
     requires distinct { IsTrue (are_distinct (group_names named.items)) }
     ensures name { IfOk result (λ c. c.name ≡ name) }
-    ensures value { Gives chain_view result (spec.fits place (chain_of name capture (settings_view settings) (option_map plan_view nat) (stages_view stages.items) (map named_view named.items))) }
+    ensures value { Gives chain_view result
+        (spec.fits place (chain_of name capture (settings_view settings) (option_map plan_view nat)
+        (stages_view stages.items) (map named_view named.items))) }
 {
     let outputs = outputs_of(alloc, &named)?;
     let groups = groups_with(alloc, &outputs, named)?;
@@ -182,7 +187,8 @@ fn tenant_values(
     earlier: &[Chain],
     table: &Table,
 ) -> Result<Chain, ChainFault>
-    ensures value { Gives chain_view result (spec.tenant_values version place (chain_names earlier.now) (table_view table.now)) }
+    ensures value { Gives chain_view result
+        (spec.tenant_values version place (chain_names earlier.now) (table_view table.now)) }
     ensures fresh { IfOk result (λ c. is_among c.name (chain_names earlier.now) ≡ false) }
 {
     tenant_keys(alloc, place, table)?;
@@ -212,7 +218,8 @@ fn tenant_at(
 
 fn tenants(alloc: Global, version: u32, array: &Array) -> Result<Vec<Chain>, ChainFault>
     requires { vec_len array.now < 2 ^ 31 }
-    ensures value { Gives (λ v. map chain_view v.items) result (fields.each (spec.tenant_at version) (array_view array.now)) }
+    ensures value { Gives (λ v. map chain_view v.items) result
+        (fields.each (spec.tenant_at version) (array_view array.now)) }
     ensures len { IfOk result (λ v. vec_len v ≡ vec_len array.now) }
     ensures distinct { IfOk result (λ v. IsTrue (are_distinct (chain_names v.items))) }
 {

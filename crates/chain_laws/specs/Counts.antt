@@ -14,7 +14,8 @@ use Rattle.chain_laws.specs.Keys.{lists_left}
 -- Of any items that came, one may be left or dropped for each of them, and one for each byte of its frame, and no more.
 abbrev pub LeavesNoMore : Type 0
 LeavesNoMore = (chain : Chain) → IsAccepted chain → (n : ℕ) (list : List ClassedItem)
-    → length (all_of (leaf_lists (plan_of chain) (Some n) list)) + length (dropped_of (plan_of chain) (Some n) list) ≤ sum_by (λ (c : ClassedItem). 1 + length c.item.frame) list
+    → length (all_of (leaf_lists (plan_of chain) (Some n) list)) + length (dropped_of (plan_of chain) (Some n) list)
+    ≤ sum_by (λ (c : ClassedItem). 1 + length c.item.frame) list
 
 -- Of the capture that says c: what is left and what is dropped.
 pub record IsCounted (chain : Chain) (refused : List ℕ) (c : Contents) : Type 0 where
@@ -23,8 +24,10 @@ pub record IsCounted (chain : Chain) (refused : List ℕ) (c : Contents) : Type 
   -- how many were dropped for each reason
   pub each : AllByRecursion (λ k. k ≤ longest_capture) (tally_of chain refused c).drops
   -- so counts of 32 bits never stand still
-  pub exact : (answer chain (accepted_items chain refused c) (length c.entries)).drops ≡ drop_counts (plan_of chain) (Some (length c.entries)) (accepted_items chain refused c)
+  pub exact : (answer chain (accepted_items chain refused c) (length c.entries)).drops
+      ≡ drop_counts (plan_of chain) (Some (length c.entries)) (accepted_items chain refused c)
 
 -- No more items are left and dropped of a readable capture than it may have bytes, 33,554,432.
 abbrev pub CountsAreSmall : Type 0
-CountsAreSmall = (chain : Chain) → IsAccepted chain → (refused : List ℕ) (bytes : List ℕ) (c : Contents) → IsReadable bytes c → IsCounted chain refused c
+CountsAreSmall = (chain : Chain) → IsAccepted chain → (refused : List ℕ) (bytes : List ℕ) (c : Contents)
+    → IsReadable bytes c → IsCounted chain refused c

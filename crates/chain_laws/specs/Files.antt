@@ -13,7 +13,8 @@ NoNameTwice (n ∷ ns) = AllByRecursion (λ m. n ≢ m) ns × NoNameTwice ns
 abbrev pub IsNoneOf : List (List ℕ) → List ℕ → Type 0
 IsNoneOf names name = AllByRecursion (λ n. name ≢ n) names
 
--- No two files of the run have the same name, whether of one tenant or of two. None is the chain file, and none is a tenant's capture.
+-- No two files of the run have the same name, whether of one tenant or of two. None is the chain file, and none is a
+-- tenant's capture.
 pub record HasOwnFiles (own out : List ℕ) (set : List Chain) : Type 0 where
   pub distinct : NoNameTwice (run_files out set)
   pub chain_file : IsNoneOf (run_files out set) own
@@ -21,4 +22,5 @@ pub record HasOwnFiles (own out : List ℕ) (set : List Chain) : Type 0 where
 
 -- So it is of each chain set that a chain file `own` gives for the folder `out`.
 abbrev pub FilesAreDistinct : Type 0
-FilesAreDistinct = (own out bytes : List ℕ) (set : List Chain) → read_chains own out bytes ≡ Ok set → HasOwnFiles own out set
+FilesAreDistinct =
+    (own out bytes : List ℕ) (set : List Chain) → read_chains own out bytes ≡ Ok set → HasOwnFiles own out set

@@ -33,7 +33,8 @@ AreOfRecords n (c ∷ cs) = ((c.item.a < n) × (c.item.j ≡ 0) × AllByRecursio
 
 -- The same of what a chain answers for any records of a capture of n, whatever their classes and their order.
 abbrev pub AnswersAreDistinct : Type 0
-AnswersAreDistinct = (chain : Chain) → IsAccepted chain → (n : ℕ) (list : List ClassedItem) → AreOfRecords n list → AllByRecursion RisesStrictly (answer chain list n).groups
+AnswersAreDistinct = (chain : Chain) → IsAccepted chain → (n : ℕ) (list : List ClassedItem) → AreOfRecords n list
+    → AllByRecursion RisesStrictly (answer chain list n).groups
 
 -- OVER ALL LEAF GROUPS
 
@@ -48,7 +49,8 @@ times_left chain refused c a j = count_by (has_key a j) (all_of (lists_left chai
 abbrev pub RecordsStandOnce : Type 0
 RecordsStandOnce = (chain : Chain) → IsAccepted chain → (refused : List ℕ) (c : Contents) (a j : ℕ) → a < length c.entries → times_left chain refused c a j ≤ 1
 
--- Where at most one stage `window` stands in the whole chain, every key stands at most once in all leaf groups together. With a window
--- each in two groups, the rests of one flow may stand in both, under the same keys behind those of all records.
+-- Where at most one stage `window` stands in the whole chain, every key stands at most once in all leaf groups
+-- together. With a window each in two groups, the rests of one flow may stand in both, under the same keys behind those
+-- of all records.
 abbrev pub KeysStandOnce : Type 0
 KeysStandOnce = (chain : Chain) → IsAccepted chain → windows_in (all_stages chain) ≤ 1 → (refused : List ℕ) (c : Contents) (a j : ℕ) → times_left chain refused c a j ≤ 1

@@ -4,7 +4,8 @@ use Rattle.std.specs.List.{AllByRecursion, list_all}
 use Rattle.brick_spec.specs.Name.{is_name}
 use Rattle.brick_spec.specs.Route as routes
 use Rattle.flow_spec.specs.Balancing.{Backend, Change}
-use Rattle.chain_spec.specs.ChainSet.{Stage, Route, Balance, Leaf, Below, Output, Inner, Group, Chain, are_distinct, are_stages_right, is_below_right, IsChainRight}
+use Rattle.chain_spec.specs.ChainSet.{Stage, Route, Balance, Leaf, Below, Output, Inner, Group, Chain, are_distinct}
+use Rattle.chain_spec.specs.ChainSet.{are_stages_right, is_below_right, IsChainRight}
 use Rattle.chain_laws.specs.Accepted.{IsAccepted, all_stages}
 
 abbrev pub HaveMacs : List Backend → Type 0
@@ -29,7 +30,8 @@ pub record IsGroupRight (g : Group) : Type 0 where
   pub below_right : IsTrue (is_below_right g.below)
   pub leaves_right : AreLeavesRight g.below
 
--- names, the ranges of numbers, the lengths of lists, the three facts that join the parts, and the lengths of Ethernet addresses
+-- names, the ranges of numbers, the lengths of lists, the three facts that join the parts, and the lengths of Ethernet
+-- addresses
 pub record IsRight (chain : Chain) : Type 0 where
   pub named : IsTrue (is_name chain.name)
   pub capture_length : (1 ≤ length chain.capture) × (length chain.capture ≤ 255)

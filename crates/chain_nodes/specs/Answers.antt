@@ -14,7 +14,10 @@ use Rattle.chain_nodes.specs.declared.work.NodeWork.{NodeWork}
 use Rattle.chain_nodes.specs.Work.{EndedWith}
 
 -- The result is what the plan that the places follow answers for each list of records that the work stands for.
-abbrev pub Answers : {N : Type 0} → (N → Flow → FlowInput → Parts → Type 0) → (N → Meaning) → (N → List (List Item)) → (N → ℕ → ℕ → ℕ → Type 0) → NodeWork N → WorkResult → Type 0
+abbrev pub Answers : {N : Type 0} → (N → Flow → FlowInput → Parts → Type 0) → (N → Meaning) → (N → List (List Item))
+    → (N → ℕ → ℕ → ℕ → Type 0) → NodeWork N → WorkResult → Type 0
 Answers stands makes results serves w r =
-    (plan : Plan) (class_at : ℕ → Class) (n : ℕ) (list : List ClassedItem) → makes w.root ≡ flow_meaning plan → length (results w.root) ≡ leaf_count plan
-    → OwnsKeys (flow_meaning plan) → AreRecords class_at n list → EndedWith stands makes results serves n w list → result_view r ≡ answer plan list n
+    (plan : Plan) (class_at : ℕ → Class) (n : ℕ) (list : List ClassedItem) → makes w.root ≡ flow_meaning plan
+    → length (results w.root) ≡ leaf_count plan
+    → OwnsKeys (flow_meaning plan) → AreRecords class_at n list → EndedWith stands makes results serves n w list
+    → result_view r ≡ answer plan list n

@@ -1,10 +1,14 @@
 -- Laws of places that stand in ghost members.
-use Rattle.std.proofs.Common.{◌≡◌, ℕ, ◌+◌, ◌≤◌, List, [], ◌∷◌, ◌++◌, map, flat_map, length, ◌⊎◌, inl, inr, refl, ap, sym, subst, ◌∙◌, arith, append-nil, append_assoc, length-append}
+use Rattle.std.proofs.Common.{◌≡◌, ℕ, ◌+◌, ◌≤◌, List, [], ◌∷◌, ◌++◌, map, flat_map, length, ◌⊎◌, inl, inr, refl, ap}
+use Rattle.std.proofs.Common.{sym, subst, ◌∙◌, arith, append-nil, append_assoc, length-append}
 use Rattle.batch_ops.specs.declared.outlet.Passed.{Passed}
 use Rattle.chain_nodes.specs.Node.{Took, PipeServes}
 
-pub pipe_more : {P N : Type 0} (ready : P → Type 0) (spares least_room : P → ℕ) (serves : N → ℕ → ℕ → ℕ → Type 0) → ((n : N) (count bytes free all : ℕ) → free ≤ all → serves n count bytes free → serves n count bytes all)
-    → (p : P) (n : N) (waiting : List Passed) (room count bytes free all : ℕ) → free ≤ all → PipeServes ready spares least_room serves p n waiting room count bytes free → PipeServes ready spares least_room serves p n waiting room count bytes all
+pub pipe_more : {P N : Type 0} (ready : P → Type 0) (spares least_room : P → ℕ) (serves : N → ℕ → ℕ → ℕ → Type 0)
+    → ((n : N) (count bytes free all : ℕ) → free ≤ all → serves n count bytes free → serves n count bytes all)
+    → (p : P) (n : N) (waiting : List Passed) (room count bytes free all : ℕ) → free ≤ all
+    → PipeServes ready spares least_room serves p n waiting room count bytes free
+    → PipeServes ready spares least_room serves p n waiting room count bytes all
 pipe_more ready spares least_room serves more p n waiting room count bytes free all h s = record {
   ready_row = s.ready_row;
   within = s.within;

@@ -24,11 +24,13 @@ abbrev pub none_came : FlowInput
 none_came = record { items = []; ended = None }
 
 -- nothing came to it
-pub record IsNewNode {N : Type 0} (stands : N → Flow → FlowInput → Parts → Type 0) (results : N → List (List Item)) (n : N) : Type 0 where
+pub record IsNewNode {N : Type 0} (stands : N → Flow → FlowInput → Parts → Type 0) (results : N
+    → List (List Item)) (n : N) : Type 0 where
   pub nothing : (f : Flow) → stands n f none_came (fresh (results n))
   pub empty : AllByRecursion (λ list. list ≡ []) (results n)
 
-module _ {N : Type 0} (stands : N → Flow → FlowInput → Parts → Type 0) (makes : N → Meaning) (results : N → List (List Item)) (serves : N → ℕ → ℕ → ℕ → Type 0) where
+module _ {N : Type 0} (stands : N → Flow → FlowInput → Parts → Type 0) (makes : N → Meaning) (results : N
+    → List (List Item)) (serves : N → ℕ → ℕ → ℕ → Type 0) where
   abbrev pub work_stands : NodeWork N → Flow → FlowInput → Parts → Type 0
   work_stands w = stands w.root
 
@@ -41,8 +43,8 @@ module _ {N : Type 0} (stands : N → Flow → FlowInput → Parts → Type 0) (
   abbrev pub work_counts : NodeWork N → List ℕ
   work_counts w = w.desk.counts
 
-  -- The work stands for this list of items with their classes: what it keeps of each flow, and what it made of it, fit what came of that
-  -- flow. It hides in which turn the flows wrote.
+  -- The work stands for this list of items with their classes: what it keeps of each flow, and what it made of it, fit
+  -- what came of that flow. It hides in which turn the flows wrote.
   pub record StandsFor (w : NodeWork N) (list : List ClassedItem) : Type 0 where
     pub log : List Entry
     pub means : EndedFor work_stands work_results work_counts 0 [] w list log
@@ -65,7 +67,8 @@ module _ {N : Type 0} (stands : N → Flow → FlowInput → Parts → Type 0) (
     pub ready : IsReady new
     pub recycled : Recycled (map work_buffer works) old.desk.back new.desk.back old.desk.out.spare new.desk.out.spare
     pub stays_failed : old.failed ≡ true → new.failed ≡ true
-    pub stands_for : new.failed ≡ false → (list : List ClassedItem) → StandsFor old list → StandsFor new (list ++ map classed works)
+    pub stands_for : new.failed ≡ false → (list : List ClassedItem) → StandsFor old list
+        → StandsFor new (list ++ map classed works)
     pub same : makes new.root ≡ makes old.root
     pub many : length (results new.root) ≡ length (results old.root)
     pub ended : new.ended ≡ old.ended
@@ -79,7 +82,8 @@ module _ {N : Type 0} (stands : N → Flow → FlowInput → Parts → Type 0) (
     pub ended : new.ended ≡ old.ended
     pub stays_failed : old.failed ≡ true → new.failed ≡ true
     -- it stands for the packets too, whatever it stood for, or has failed
-    pub stands_for : new.failed ≡ false → (list : List ClassedItem) → StandsFor old list → StandsFor new (list ++ map classed batch)
+    pub stands_for : new.failed ≡ false → (list : List ClassedItem) → StandsFor old list
+        → StandsFor new (list ++ map classed batch)
     -- what no call changes
     pub same : makes new.root ≡ makes old.root
     pub many : length (results new.root) ≡ length (results old.root)
@@ -89,7 +93,8 @@ module _ {N : Type 0} (stands : N → Flow → FlowInput → Parts → Type 0) (
     pub ready : IsReady new
     pub recycled : Recycled [] old.desk.back new.desk.back old.desk.out.spare new.desk.out.spare
     pub stays_failed : old.failed ≡ true → new.failed ≡ true
-    pub goes : new.failed ≡ false → (added : Parts) × GoneBy work_stands work_makes work_results work_counts old new flow [] (Some records) added
+    pub goes : new.failed ≡ false
+        → (added : Parts) × GoneBy work_stands work_makes work_results work_counts old new flow [] (Some records) added
     pub same : makes new.root ≡ makes old.root
     pub many : length (results new.root) ≡ length (results old.root)
     pub flows : new.flows ≡ old.flows

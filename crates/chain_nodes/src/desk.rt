@@ -12,7 +12,8 @@ use brick_base::{NoMemory, Raw, Reason};
 use packet_owner::Packet;
 use work_core::Returned;
 
-/// Where packets come to rest: the outlet that they go through, the counts of those that were dropped, and the buffers that go back.
+/// Where packets come to rest: the outlet that they go through, the counts of those that were dropped, and the buffers
+/// that go back.
 #[derive(Debug, Drop)]
 pub struct Desk {
     /// The outlet, with the spare buffers.
@@ -43,7 +44,8 @@ fn place_of(reason: Reason) -> usize
 
 /// Counts a drop, up to 4,294,967,295 of each reason.
 fn count(counts: &mut [u32; 9], reason: Option<Reason>)
-    ensures { (k : ℕ) → k < 9 → slice_index counts.new k ≡ min 4294967295 (slice_index counts.old k + counted k reason) }
+    ensures { (k : ℕ) → k < 9
+        → slice_index counts.new k ≡ min 4294967295 (slice_index counts.old k + counted k reason) }
 {
     if let Some(reason) = reason {
         let at = place_of(reason);
@@ -55,7 +57,8 @@ impl Desk {
     /// Brings the buffer of a packet to rest.
     pub fn put_back(&mut self, packet: Packet<Raw>)
         requires { AreOut (buffer_of packet ∷ []) self.old.back self.old.out.spare }
-        ensures recycled { Recycled (buffer_of packet ∷ []) self.old.back self.new.back self.old.out.spare self.new.out.spare }
+        ensures recycled { Recycled (buffer_of packet
+            ∷ []) self.old.back self.new.back self.old.out.spare self.new.out.spare }
         ensures lists { SameLists self.old.out self.new.out }
         ensures counts { self.new.counts ≡ self.old.counts }
     {
@@ -69,18 +72,24 @@ impl Desk {
     /// Drops a packet: it is counted, and its buffer comes to rest.
     pub fn drop_for(&mut self, reason: Reason, packet: Packet<Raw>)
         requires { AreOut (buffer_of packet ∷ []) self.old.back self.old.out.spare }
-        ensures recycled { Recycled (buffer_of packet ∷ []) self.old.back self.new.back self.old.out.spare self.new.out.spare }
+        ensures recycled { Recycled (buffer_of packet
+            ∷ []) self.old.back self.new.back self.old.out.spare self.new.out.spare }
         ensures lists { SameLists self.old.out self.new.out }
-        ensures counts { CountsMore self.old.counts self.new.counts (record { reason = reason_view reason; item = packet_item packet } ∷ []) }
+        ensures counts { CountsMore self.old.counts self.new.counts (record {
+          reason = reason_view reason;
+          item = packet_item packet;
+        } ∷ []) }
     {
         count(&mut self.counts, Some(reason));
         self.put_back(packet);
     }
 
-    /// Counts a packet that was dropped, and brings its buffer to rest. One that was lost to want of memory is not counted.
+    /// Counts a packet that was dropped, and brings its buffer to rest. One that was lost to want of memory is not
+    /// counted.
     pub fn take_dropped(&mut self, dropped: Dropped) -> Result<(), NoMemory>
         requires { AreOut (dropped_buffer dropped ∷ []) self.old.back self.old.out.spare }
-        ensures recycled { Recycled (dropped_buffer dropped ∷ []) self.old.back self.new.back self.old.out.spare self.new.out.spare }
+        ensures recycled { Recycled (dropped_buffer dropped
+            ∷ []) self.old.back self.new.back self.old.out.spare self.new.out.spare }
         ensures lists { SameLists self.old.out self.new.out }
         ensures counts { CountsMore self.old.counts self.new.counts (drops_of dropped) }
         ensures lost { is_err result ≡ is_lost dropped }
@@ -94,7 +103,9 @@ impl Desk {
     /// Counts the packets that were dropped, and brings their buffers to rest.
     pub fn settle_dropped(&mut self)
         requires { AreOut (map dropped_buffer self.old.out.dropped.items) self.old.back self.old.out.spare }
-        ensures recycled { Recycled (map dropped_buffer self.old.out.dropped.items) self.old.back self.new.back self.old.out.spare self.new.out.spare }
+        ensures recycled { Recycled
+            (map dropped_buffer self.old.out.dropped.items) self.old.back self.new.back self.old.out.spare
+            self.new.out.spare }
         ensures counts { CountsMore self.old.counts self.new.counts (flat_map drops_of self.old.out.dropped.items) }
         ensures emptied { self.new.out.dropped.items ≡ [] }
         ensures passed { self.new.out.passed ≡ self.old.out.passed }
@@ -109,7 +120,9 @@ impl Desk {
     /// Brings the buffers of packets to rest of which the content is kept elsewhere.
     pub fn settle_consumed(&mut self)
         requires { AreOut (map buffer_of self.old.out.consumed.items) self.old.back self.old.out.spare }
-        ensures recycled { Recycled (map buffer_of self.old.out.consumed.items) self.old.back self.new.back self.old.out.spare self.new.out.spare }
+        ensures recycled { Recycled
+            (map buffer_of self.old.out.consumed.items) self.old.back self.new.back self.old.out.spare
+            self.new.out.spare }
         ensures counts { self.new.counts ≡ self.old.counts }
         ensures emptied { self.new.out.consumed.items ≡ [] }
         ensures passed { self.new.out.passed ≡ self.old.out.passed }
@@ -122,8 +135,11 @@ impl Desk {
 
     /// Counts the packets that were dropped, and brings all buffers to rest but those of the packets that go on.
     pub fn settle(&mut self)
-        requires { AreOut (map dropped_buffer self.old.out.dropped.items ++ map buffer_of self.old.out.consumed.items) self.old.back self.old.out.spare }
-        ensures recycled { Recycled (map dropped_buffer self.old.out.dropped.items ++ map buffer_of self.old.out.consumed.items) self.old.back self.new.back self.old.out.spare self.new.out.spare }
+        requires { AreOut (map dropped_buffer self.old.out.dropped.items
+            ++ map buffer_of self.old.out.consumed.items) self.old.back self.old.out.spare }
+        ensures recycled { Recycled (map dropped_buffer self.old.out.dropped.items
+            ++ map buffer_of self.old.out.consumed.items) self.old.back self.new.back self.old.out.spare
+            self.new.out.spare }
         ensures counts { CountsMore self.old.counts self.new.counts (flat_map drops_of self.old.out.dropped.items) }
         ensures dropped { self.new.out.dropped.items ≡ [] }
         ensures consumed { self.new.out.consumed.items ≡ [] }

@@ -1,5 +1,6 @@
 ghost use Rattle.std.specs.Prelude.{ℕ, List};
-ghost use Rattle.chain_nodes.specs.Either.{either_stands, either_makes, either_results, either_serves, either_node, either_more};
+ghost use Rattle.chain_nodes.specs.Either.{either_stands, either_makes, either_results, either_serves, either_node};
+ghost use Rattle.chain_nodes.specs.Either.{either_more};
 
 use crate::{Desk, Node};
 use brick_base::{Class, NoMemory, Raw};

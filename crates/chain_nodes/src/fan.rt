@@ -71,5 +71,6 @@ impl<N: Node> Node for Fan<N> {
 
     ghost holds = { fan_node N.stands N.makes N.results (λ t. t.groups) (λ t. t.places.items) N.holds };
 
-    ghost more = { λ t count bytes free all fits was. fan_more N.serves N.more t.groups t.places.items count bytes free all fits was };
+    ghost more = { λ t count bytes free all fits was. fan_more N.serves N.more t.groups t.places.items count bytes free
+        all fits was };
 }

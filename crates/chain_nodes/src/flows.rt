@@ -27,7 +27,8 @@ fn is_seen(seen: &[bool], number: u32) -> bool
 
 /// Notes that the flow of this number is there.
 fn see(seen: &mut Vec<bool>, number: u32) -> Result<(), NoMemory>
-    ensures { OnOk result ((q : ℕ) → slice_index_or seen.new.items q false ≡ nat_eq q number || slice_index_or seen.old.items q false) }
+    ensures { OnOk result ((q : ℕ)
+        → slice_index_or seen.new.items q false ≡ nat_eq q number || slice_index_or seen.old.items q false) }
 {
     let at = number as usize;
     if at >= seen.len() {

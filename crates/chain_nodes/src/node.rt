@@ -41,10 +41,12 @@ pub trait Node: Drop {
         packet: Packet<Raw>,
         desk: &mut Desk,
     ) -> Result<(), NoMemory>
-        requires serves { serves self.old desk.old.out.spare.count desk.old.out.spare.bytes (length desk.old.out.spare.free) }
+        requires serves { serves self.old desk.old.out.spare.count desk.old.out.spare.bytes
+            (length desk.old.out.spare.free) }
         requires rest { IsEmptied desk.old.out }
         requires out { AreOut (buffer_of packet ∷ []) desk.old.back desk.old.out.spare }
-        ensures { Took stands makes results serves self.old self.new (flow_of class.now) (buffer_of packet ∷ []) (work_item class.now packet ∷ []) None desk.old desk.new result };
+        ensures { Took stands makes results serves self.old self.new (flow_of class.now) (buffer_of packet
+            ∷ []) (work_item class.now packet ∷ []) None desk.old desk.new result };
 
     /// Handles the end of a flow, in a capture of so many records.
     fn end(
@@ -54,18 +56,22 @@ pub trait Node: Drop {
         records: u32,
         desk: &mut Desk,
     ) -> Result<(), NoMemory>
-        requires serves { serves self.old desk.old.out.spare.count desk.old.out.spare.bytes (length desk.old.out.spare.free) }
+        requires serves { serves self.old desk.old.out.spare.count desk.old.out.spare.bytes
+            (length desk.old.out.spare.free) }
         requires rest { IsEmptied desk.old.out }
         requires out { AreOut [] desk.old.back desk.old.out.spare }
-        ensures { Took stands makes results serves self.old self.new (flow_of class.now) [] [] (Some records) desk.old desk.new result };
+        ensures { Took stands makes results serves self.old self.new
+            (flow_of class.now) [] [] (Some records) desk.old desk.new result };
 
     /// The items of its leaf groups, each list in the order of keys, behind these lists.
     fn hand_over(self, alloc: Global, lists: Vec<Items>) -> Result<Vec<Items>, NoMemory>
-        ensures { IfOk result (λ all. map items_view all.items ≡ map items_view lists.items ++ map in_key_order (results self)) };
+        ensures { IfOk result (λ all. map items_view all.items
+            ≡ map items_view lists.items ++ map in_key_order (results self)) };
 
     /// What it stands for is what it makes.
     ghost holds: { IsNode stands makes results };
 
     /// More spare buffers do no harm.
-    ghost more: { (n : Self) (count bytes free all : ℕ) → free ≤ all → serves n count bytes free → serves n count bytes all };
+    ghost more: { (n : Self) (count bytes free all : ℕ) → free ≤ all → serves n count bytes free
+        → serves n count bytes all };
 }

@@ -40,10 +40,12 @@ fn pass_on<N: Node>(
     next: &mut N,
     desk: &mut Desk,
 ) -> Result<(), NoMemory>
-    requires serves { N.serves next.old desk.old.out.spare.count desk.old.out.spare.bytes (length desk.old.out.spare.free) }
+    requires serves { N.serves next.old desk.old.out.spare.count desk.old.out.spare.bytes
+        (length desk.old.out.spare.free) }
     requires rest { IsEmptied desk.old.out }
     requires out { AreOut (map passed_buffer waiting.old.items) desk.old.back desk.old.out.spare }
-    ensures took { Took N.stands N.makes N.results N.serves next.old next.new (flow_of class.now) (map passed_buffer waiting.old.items) (map passed_item waiting.old.items) None desk.old desk.new result }
+    ensures took { Took N.stands N.makes N.results N.serves next.old next.new (flow_of class.now)
+        (map passed_buffer waiting.old.items) (map passed_item waiting.old.items) None desk.old desk.new result }
     ensures none { waiting.new.items ≡ [] }
     ensures room { vec_capacity waiting.new ≡ vec_capacity waiting.old }
 {
@@ -89,7 +91,8 @@ impl<P: Direct + Drop, N: Node> Node for Pipe<P, N> {
 
     ghost results = { λ t. N.results t.next };
 
-    ghost serves = { λ t count bytes free. PipeServes P.meaning.ready P.meaning.spares P.meaning.least_room N.serves t.path t.next t.waiting.items (vec_capacity t.waiting) count bytes free };
+    ghost serves = { λ t count bytes free. PipeServes P.meaning.ready P.meaning.spares P.meaning.least_room N.serves
+        t.path t.next t.waiting.items (vec_capacity t.waiting) count bytes free };
 
     fn take(
         &mut self,
@@ -135,7 +138,9 @@ impl<P: Direct + Drop, N: Node> Node for Pipe<P, N> {
         next.hand_over(alloc, lists)
     }
 
-    ghost holds = { piped_node P.meaning.stands P.meaning.row N.stands N.makes N.results (λ t. t.path) (λ t. t.next) P.means N.holds };
+    ghost holds = { piped_node P.meaning.stands P.meaning.row N.stands N.makes N.results (λ t. t.path)
+        (λ t. t.next) P.means N.holds };
 
-    ghost more = { λ t count bytes free all fits was. pipe_more P.meaning.ready P.meaning.spares P.meaning.least_room N.serves N.more t.path t.next t.waiting.items (vec_capacity t.waiting) count bytes free all fits was };
+    ghost more = { λ t count bytes free all fits was. pipe_more P.meaning.ready P.meaning.spares P.meaning.least_room
+        N.serves N.more t.path t.next t.waiting.items (vec_capacity t.waiting) count bytes free all fits was };
 }

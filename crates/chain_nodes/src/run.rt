@@ -31,8 +31,8 @@ fn take_turns<N: Node>(alloc: Global, work: NodeWork<N>, batches: Vec<Batch>) ->
     work
 }
 
-/// A chain's work from its beginning to its results: the batches are of records of one capture, of so many. The results are what the
-/// chain makes of each flow, joined for each leaf group in the order of keys, and how many it dropped.
+/// A chain's work from its beginning to its results: the batches are of records of one capture, of so many. The results
+/// are what the chain makes of each flow, joined for each leaf group in the order of keys, and how many it dropped.
 pub fn run_tenant<N: Node>(
     alloc: Global,
     work: NodeWork<N>,
@@ -44,8 +44,10 @@ pub fn run_tenant<N: Node>(
     requires open_work { work.ended ≡ None }
     requires begins { StandsFor N.stands N.makes N.results N.serves work [] }
     requires lent { AllByRecursion AreLent batches.items }
-    ensures { IfOk result (λ r. (plan : Plan) (class_at : ℕ → ClassMeaning) → N.makes work.root ≡ flow_meaning plan → length (N.results work.root) ≡ leaf_count plan → OwnsKeys (flow_meaning plan)
-        → AreRecords class_at records (map classed (all_of batches.items)) → result_view r ≡ answer plan (map classed (all_of batches.items)) records) }
+    ensures { IfOk result (λ r. (plan : Plan) (class_at : ℕ → ClassMeaning) → N.makes work.root ≡ flow_meaning plan
+        → length (N.results work.root) ≡ leaf_count plan → OwnsKeys (flow_meaning plan)
+        → AreRecords class_at records (map classed (all_of batches.items))
+        → result_view r ≡ answer plan (map classed (all_of batches.items)) records) }
 {
     let mut work = take_turns(alloc, work, batches);
     work.end(alloc, records);

@@ -74,8 +74,8 @@ impl<N: Node> NodeWork<N> {
         self.failed = both(noted, taken).is_err();
     }
 
-    /// Takes the packets of a batch through the chain, and gives their buffers back. A work that ran out of memory has failed, and
-    /// from then on gives all buffers back unread.
+    /// Takes the packets of a batch through the chain, and gives their buffers back. A work that ran out of memory has
+    /// failed, and from then on gives all buffers back unread.
     pub fn turn(&mut self, alloc: Global, batch: Batch) -> Returned
         requires ready { IsReady N.stands N.makes N.results N.serves self.old }
         requires none_left { self.old.desk.back ≡ [] }

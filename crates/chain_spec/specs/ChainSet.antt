@@ -1,5 +1,6 @@
 -- The chains that a chain file gives: a chain for each tenant, and the names of its files.
-use Rattle.std.specs.Prelude.{ℕ, List, [], ◌∷◌, ◌++◌, map, flat_map, length, count_by, Bool, true, false, not, ◌&&◌, ◌||◌, nat_le, nat_lt, Option, is_some, is_none, unwrap_or, codes, if◌then◌else◌, IsTrue}
+use Rattle.std.specs.Prelude.{ℕ, List, [], ◌∷◌, ◌++◌, map, flat_map, length, count_by, Bool, true, false, not, ◌&&◌}
+use Rattle.std.specs.Prelude.{◌||◌, nat_le, nat_lt, Option, is_some, is_none, unwrap_or, codes, if◌then◌else◌, IsTrue}
 use Rattle.std.specs.List.{list_any, list_all, position}
 use Rattle.std.specs.Str.{bytes_eq}
 use Rattle.brick_spec.specs.Firewall.{Verdict, Rule}
@@ -183,7 +184,12 @@ below_with outputs (Into name) = Output (place_of outputs name)
 below_with outputs (Within leaves) = Inner (map (leaf_with outputs) leaves)
 
 abbrev pub group_with : List (List ℕ) → NamedGroup → Group
-group_with outputs g = record { name = g.name; wanted = g.wanted; stages = g.stages; below = below_with outputs g.below }
+group_with outputs g = record {
+  name = g.name;
+  wanted = g.wanted;
+  stages = g.stages;
+  below = below_with outputs g.below;
+}
 
 -- a tenant's numbers and words
 pub record Settings : Type 0 where
@@ -221,14 +227,16 @@ are_rising n (c ∷ cs) = nat_lt n c.from && are_rising c.from cs
 abbrev pub are_backends_right : List Backend → Bool
 are_backends_right backends = is_between 1 64 (length backends) && are_distinct (map (λ b. b.name) backends)
 
--- The ranges of a stage's numbers, and the lengths of its lists. The rows of a table of routes have no fault, and the records of the
--- changes rise.
+-- The ranges of a stage's numbers, and the lengths of its lists. The rows of a table of routes have no fault, and the
+-- records of the changes rise.
 abbrev pub is_stage_right : Stage → Bool
 is_stage_right (SetTos value) = nat_le value 255
 is_stage_right (Firewall default established rules) = nat_le (length rules) 256
 is_stage_right (Route mac rows) = is_between 1 4096 (length rows) && is_none (routes.first_fault rows)
 is_stage_right (Balance backends changes) =
-    are_backends_right backends && (nat_le (length changes) 15 && (list_all (λ c. are_backends_right c.backends) changes && are_rising 0 changes))
+    are_backends_right backends
+    && (nat_le (length changes) 15
+    && (list_all (λ c. are_backends_right c.backends) changes && are_rising 0 changes))
 is_stage_right (Window size reach) = is_between 64 1460 size && is_between 1460 1048576 reach
 is_stage_right (Scan text reach) = is_between 1 64 (length text) && is_between 1460 1048576 reach
 is_stage_right _ = true
@@ -245,7 +253,8 @@ is_below_right (Inner leaves) = is_between 1 4 (length leaves) && are_distinct (
 -- what is behind a group's stages: one name, or 1 to 4 groups with different names, each with a name of its output
 abbrev pub is_named_below_right : NamedBelow → Bool
 is_named_below_right (Into name) = is_name name
-is_named_below_right (Within leaves) = (is_between 1 4 (length leaves) && are_distinct (map (λ l. l.name) leaves)) && list_all is_name (map (λ l. l.into) leaves)
+is_named_below_right (Within leaves) = (is_between 1 4 (length leaves) && are_distinct (map (λ l. l.name) leaves))
+    && list_all is_name (map (λ l. l.into) leaves)
 
 -- a stage `nat` stands only beside a plan
 abbrev pub has_plan_for_nat : Chain → Bool
@@ -269,7 +278,8 @@ output_file out name output = out ++ (codes "/" ++ (name ++ (codes "." ++ (outpu
 abbrev pub refused_file : List ℕ → List ℕ → List ℕ
 refused_file out name = out ++ (codes "/" ++ (name ++ codes ".refused"))
 
--- the files of a tenant, in the order in which they are written: one for each output, and then that of the refused records
+-- the files of a tenant, in the order in which they are written: one for each output, and then that of the refused
+-- records
 abbrev pub file_names : List ℕ → Chain → List (List ℕ)
 file_names out chain = map (output_file out chain.name) chain.outputs ++ refused_file out chain.name ∷ []
 

@@ -11,7 +11,8 @@ use Rattle.chain_spec.specs.ChainText.{any_prefix_of, mac_of}
 use Rattle.chain_spec.specs.ChainFault as faults
 use Rattle.chain_spec.specs.ChainFault.{ChainFault, Range, ◌>>=◌}
 use Rattle.chain_spec.specs.ChainSet.{Stage, Ttl, SetTos, Only, Firewall, Route, Nat, Balance, Window, Scan}
-use Rattle.chain_spec.specs.Fields.{Text, known, required, table_in, number_in, number_or, number_at, written_in, prefix_at, bytes_in, truth_or_false, name_in, word_from, array_in, each}
+use Rattle.chain_spec.specs.Fields.{Text, known, required, table_in, number_in, number_or, number_at, written_in}
+use Rattle.chain_spec.specs.Fields.{prefix_at, bytes_in, truth_or_false, name_in, word_from, array_in, each}
 
 -- MATCHES
 
@@ -51,7 +52,8 @@ abbrev pub rule_row : List Text
 rule_row = codes "verdict" ∷ codes "match" ∷ []
 
 abbrev pub verdict_of : Text → Option Verdict
-verdict_of t = if bytes_eq t (codes "allow") then Some Allow else (if bytes_eq t (codes "deny") then Some Deny else None)
+verdict_of t =
+    if bytes_eq t (codes "allow") then Some Allow else (if bytes_eq t (codes "deny") then Some Deny else None)
 
 unfoldable pub rule_values : ℕ → Members → Result Rule ChainFault
 rule_values place ms = do
@@ -169,8 +171,10 @@ kind_among (k ∷ ks) t = if bytes_eq t k.0 then Some k.1 else kind_among ks t
 
 -- the stages that a file may name
 abbrev pub kinds : List (Text × Kind)
-kinds = (codes "ttl", TtlKind) ∷ (codes "set_tos", SetTosKind) ∷ (codes "only", OnlyKind) ∷ (codes "firewall", FirewallKind) ∷ (codes "route", RouteKind)
-    ∷ (codes "nat", NatKind) ∷ (codes "balance", BalanceKind) ∷ (codes "window", WindowKind) ∷ (codes "scan", ScanKind) ∷ []
+kinds = (codes "ttl", TtlKind) ∷ (codes "set_tos", SetTosKind) ∷ (codes "only", OnlyKind)
+    ∷ (codes "firewall", FirewallKind) ∷ (codes "route", RouteKind)
+    ∷ (codes "nat", NatKind) ∷ (codes "balance", BalanceKind) ∷ (codes "window", WindowKind) ∷ (codes "scan", ScanKind)
+    ∷ []
 
 abbrev pub kind_of : Text → Option Kind
 kind_of t = kind_among kinds t

@@ -1,6 +1,7 @@
 //! Addresses, prefixes and Ethernet addresses in a text.
 
-ghost use Rattle.std.specs.Prelude.{◌≡◌, ◌<◌, ◌≤◌, ◌==◌, [], ◌∷◌, IfOk, IfSome, Some, None, map, option_map, if◌then◌else◌};
+ghost use Rattle.std.specs.Prelude.{◌≡◌, ◌<◌, ◌≤◌, ◌==◌, [], ◌∷◌, IfOk, IfSome, Some, None, map, option_map};
+ghost use Rattle.std.specs.Prelude.{if◌then◌else◌};
 ghost use Rattle.std.specs.List.{slice_split};
 ghost use Rattle.chain_spec.specs.ChainText as spec;
 ghost use Rattle.brick_spec.specs.Route.{has_host_bits};
@@ -87,7 +88,8 @@ pub fn any_prefix_of(alloc: Global, text: &str) -> Result<Option<AnyPrefix>, NoM
 
 /// The prefix, where the bits of its address past the first n are 0.
 fn without_host_bits(prefix: AnyPrefix) -> Option<Prefix>
-    ensures { option_map prefix_view result ≡ (if has_host_bits (any_prefix_view prefix) then None else Some (any_prefix_view prefix)) }
+    ensures { option_map prefix_view result
+        ≡ (if has_host_bits (any_prefix_view prefix) then None else Some (any_prefix_view prefix)) }
 {
     Prefix::new(prefix.addr, prefix.bits)
 }
@@ -159,7 +161,8 @@ fn six_of(bytes: &[u8]) -> Option<[u8; 6]>
     }
 }
 
-/// The Ethernet address that six pairs of hexadecimal digits write, of either case, joined by `:` (RFC 7042, section 2.1).
+/// The Ethernet address that six pairs of hexadecimal digits write, of either case, joined by `:` (RFC 7042, section
+/// 2.1).
 pub fn mac_of(alloc: Global, text: &str) -> Result<Option<[u8; 6]>, NoMemory>
     ensures { IfOk result (λ mac. mac ≡ spec.mac_of text.now) }
 {

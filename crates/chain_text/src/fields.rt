@@ -25,7 +25,8 @@ pub(crate) fn is_among(key: &str, row: &[&str]) -> bool
 
 /// The key, where the row does not have it.
 fn other_than<'a>(row: &[&str], key: &'a str) -> Option<&'a str>
-    ensures { option_map (λ k. k.now) result ≡ (if is_among key.now (map (λ r. r.now) row.now) then None else Some key.now) }
+    ensures { option_map (λ k. k.now) result
+        ≡ (if is_among key.now (map (λ r. r.now) row.now) then None else Some key.now) }
 {
     if is_among(key, row) { None } else { Some(key) }
 }
@@ -166,7 +167,8 @@ pub fn number_or(
     value: Option<&Value>,
 ) -> Result<u32, ChainFault>
     requires { (low ≤ default) × (default ≤ high) }
-    ensures value { Gives (λ n. n) result (spec.number_or place key.now low high default (option_map (λ v. view v.now) value.entry)) }
+    ensures value { Gives (λ n. n) result
+        (spec.number_or place key.now low high default (option_map (λ v. view v.now) value.entry)) }
     ensures bounds { IfOk result (λ n. (low ≤ n) × (n ≤ high)) }
 {
     match value {
@@ -184,7 +186,8 @@ pub fn number_at(
     high: u32,
     value: Option<&Value>,
 ) -> Result<Option<u32>, ChainFault>
-    ensures value { Gives (λ n. n) result (spec.number_at place key.now low high (option_map (λ v. view v.now) value.entry)) }
+    ensures value { Gives (λ n. n) result
+        (spec.number_at place key.now low high (option_map (λ v. view v.now) value.entry)) }
     ensures bounds { IfOk result (λ number. IfSome number (λ n. (low ≤ n) × (n ≤ high))) }
 {
     match value {

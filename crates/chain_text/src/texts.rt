@@ -80,7 +80,8 @@ pub fn prefix_at(
     key: &str,
     value: Option<&Value>,
 ) -> Result<Option<Prefix>, ChainFault>
-    ensures { Gives (option_map prefix_view) result (spec.prefix_at place key.now (option_map (λ v. view v.now) value.entry)) }
+    ensures { Gives (option_map prefix_view) result
+        (spec.prefix_at place key.now (option_map (λ v. view v.now) value.entry)) }
 {
     match value {
         None => Ok(None),

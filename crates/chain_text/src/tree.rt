@@ -11,8 +11,8 @@ use toml::Table;
 /// The most bytes of a chain file that is read.
 const LONGEST_CHAIN_FILE: usize = 1_048_576;
 
-/// The table that the bytes of a chain file write: TooLong comes where they are more than 1,048,576, and NotToml where `toml` reads
-/// no document.
+/// The table that the bytes of a chain file write: TooLong comes where they are more than 1,048,576, and NotToml where
+/// `toml` reads no document.
 #[tactic(auto, unfolding(chain_spec::specs::ChainWalk::tree, chain_spec::specs::ChainWalk::document))]
 pub fn table_of(alloc: Global, bytes: &[u8]) -> Result<Table, ChainFault>
     ensures { Gives table_view result (spec.tree bytes.now) }

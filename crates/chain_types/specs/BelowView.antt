@@ -8,7 +8,12 @@ use Rattle.chain_types.specs.declared.leaf.Below.{Below}
 use Rattle.chain_types.specs.declared.leaf.Below.TheVariants as below
 
 abbrev pub leaf_view : Leaf → spec.Leaf
-leaf_view l = record { name = l.name; wanted = option_map match_view l.wanted; stages = stages_view l.stages.items; output = l.output }
+leaf_view l = record {
+  name = l.name;
+  wanted = option_map match_view l.wanted;
+  stages = stages_view l.stages.items;
+  output = l.output;
+}
 
 abbrev pub below_view : Below → spec.Below
 below_view (below.Output output) = spec.Output output

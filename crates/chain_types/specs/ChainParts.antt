@@ -20,7 +20,8 @@ abbrev pub unparsed_view : Unparsed → spec.Unparsed
 unparsed_view unparsed.Pass = spec.UnparsedPass
 unparsed_view unparsed.Drop = spec.UnparsedDrop
 
-abbrev pub chain_parts : List ℕ → List ℕ → ℕ → ℕ → Dry → Unparsed → Option NatPlan → List Stage → List Group → List (List ℕ) → spec.Chain
+abbrev pub chain_parts : List ℕ → List ℕ → ℕ → ℕ → Dry → Unparsed → Option NatPlan → List Stage → List Group
+    → List (List ℕ) → spec.Chain
 chain_parts name capture buffers bytes dry unparsed nat stages groups outputs = record {
   name = name;
   capture = capture;

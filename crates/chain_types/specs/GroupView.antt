@@ -7,4 +7,9 @@ use Rattle.chain_types.specs.BelowView.{below_view}
 use Rattle.chain_types.specs.declared.group.Group.{Group}
 
 abbrev pub group_view : Group → spec.Group
-group_view g = record { name = g.name; wanted = option_map match_view g.wanted; stages = stages_view g.stages.items; below = below_view g.below }
+group_view g = record {
+  name = g.name;
+  wanted = option_map match_view g.wanted;
+  stages = stages_view g.stages.items;
+  below = below_view g.below;
+}

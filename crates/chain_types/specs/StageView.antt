@@ -24,10 +24,12 @@ abbrev pub stage_view : Stage → spec.Stage
 stage_view stage.Ttl = spec.Ttl
 stage_view (stage.SetTos value) = spec.SetTos value
 stage_view (stage.Only wanted) = spec.Only (match_view wanted)
-stage_view (stage.Firewall default established rules) = spec.Firewall (verdict_view default) established (map rule_view rules.items)
+stage_view (stage.Firewall default established rules) =
+    spec.Firewall (verdict_view default) established (map rule_view rules.items)
 stage_view (stage.Route mac routes) = spec.Route mac (map route_view (arc_value routes))
 stage_view stage.Nat = spec.Nat
-stage_view (stage.Balance backends changes) = spec.Balance (backends_view backends.items) (map change_view changes.items)
+stage_view (stage.Balance backends changes) =
+    spec.Balance (backends_view backends.items) (map change_view changes.items)
 stage_view (stage.Window size reach) = spec.Window size reach
 stage_view (stage.Scan text reach) = spec.Scan text.items reach
 

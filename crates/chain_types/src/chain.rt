@@ -42,5 +42,6 @@ pub struct Chain {
     pub ghost groups_distinct: { IsTrue (are_distinct (map (λ g. g.name) groups.items)) },
     pub ghost outputs_named: { IsTrue (list_all is_name outputs.items) },
     pub ghost outputs_distinct: { IsTrue (are_distinct outputs.items) },
-    pub ghost right: { IsChainRight (chain_parts name capture buffers bytes dry unparsed nat stages.items groups.items outputs.items) },
+    pub ghost right: { IsChainRight
+        (chain_parts name capture buffers bytes dry unparsed nat stages.items groups.items outputs.items) },
 }

@@ -36,8 +36,8 @@ pub enum Stage {
     Only {
         wanted: Match,
     },
-    /// The first of at most 256 rules that is met decides, and else the default. With `established` the replies of flows pass
-    /// whose first direction was allowed.
+    /// The first of at most 256 rules that is met decides, and else the default. With `established` the replies of
+    /// flows pass whose first direction was allowed.
     Firewall {
         default: Verdict,
         established: bool,
@@ -55,12 +55,14 @@ pub enum Stage {
         backends: Vec<Backend>,
         changes: Vec<Change>,
     },
-    /// Cuts each stream in windows of `size` bytes, 64 to 1,460. Data may end `reach` bytes behind the first gap, 1,460 to 1,048,576.
+    /// Cuts each stream in windows of `size` bytes, 64 to 1,460. Data may end `reach` bytes behind the first gap, 1,460
+    /// to 1,048,576.
     Window {
         size: u32,
         reach: u32,
     },
-    /// Stops a flow whose stream has the text, of 1 to 64 bytes. Data may end `reach` bytes behind the first gap, 1,460 to 1,048,576.
+    /// Stops a flow whose stream has the text, of 1 to 64 bytes. Data may end `reach` bytes behind the first gap, 1,460
+    /// to 1,048,576.
     Scan {
         text: Vec<u8>,
         reach: u32,

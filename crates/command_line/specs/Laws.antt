@@ -11,15 +11,23 @@ four a b c d = a ∷ b ∷ c ∷ d ∷ []
 
 pub record Samples : Type 0 where
   -- lines
-  pub inline : line_of (codes "inline" ∷ codes "c.toml" ∷ codes "out" ∷ []) ≡ Some (line_with Inline 1 (codes "c.toml") (codes "out"))
-  pub run : line_of (codes "run" ∷ codes "c.toml" ∷ codes "out" ∷ []) ≡ Some (line_with Run 1 (codes "c.toml") (codes "out"))
-  pub run_with_four : line_of (codes "--workers" ∷ four (codes "4") (codes "run") (codes "c.toml") (codes "out")) ≡ Some (line_with Run 4 (codes "c.toml") (codes "out"))
-  pub check : line_of (codes "--workers" ∷ four (codes "4") (codes "check") (codes "c.toml") (codes "out")) ≡ Some (line_with Check 4 (codes "c.toml") (codes "out"))
-  pub before : line_of (four (codes "--workers=16") (codes "inline") (codes "c.toml") (codes "out")) ≡ Some (line_with Inline 16 (codes "c.toml") (codes "out"))
-  pub after : line_of (four (codes "inline") (codes "c.toml") (codes "out") (codes "--workers=16")) ≡ Some (line_with Inline 16 (codes "c.toml") (codes "out"))
-  pub hyphen : line_of (codes "inline" ∷ codes "-" ∷ codes "out" ∷ []) ≡ Some (line_with Inline 1 (codes "-") (codes "out"))
+  pub inline : line_of (codes "inline" ∷ codes "c.toml" ∷ codes "out" ∷ [])
+      ≡ Some (line_with Inline 1 (codes "c.toml") (codes "out"))
+  pub run : line_of (codes "run" ∷ codes "c.toml" ∷ codes "out" ∷ [])
+      ≡ Some (line_with Run 1 (codes "c.toml") (codes "out"))
+  pub run_with_four : line_of (codes "--workers" ∷ four (codes "4") (codes "run") (codes "c.toml") (codes "out"))
+      ≡ Some (line_with Run 4 (codes "c.toml") (codes "out"))
+  pub check : line_of (codes "--workers" ∷ four (codes "4") (codes "check") (codes "c.toml") (codes "out"))
+      ≡ Some (line_with Check 4 (codes "c.toml") (codes "out"))
+  pub before : line_of (four (codes "--workers=16") (codes "inline") (codes "c.toml") (codes "out"))
+      ≡ Some (line_with Inline 16 (codes "c.toml") (codes "out"))
+  pub after : line_of (four (codes "inline") (codes "c.toml") (codes "out") (codes "--workers=16"))
+      ≡ Some (line_with Inline 16 (codes "c.toml") (codes "out"))
+  pub hyphen : line_of (codes "inline" ∷ codes "-" ∷ codes "out" ∷ [])
+      ≡ Some (line_with Inline 1 (codes "-") (codes "out"))
   pub empty : line_of (codes "inline" ∷ [] ∷ codes "out" ∷ []) ≡ Some (line_with Inline 1 [] (codes "out"))
-  pub after_hyphens : line_of (four (codes "--") (codes "inline") (codes "--help") (codes "out")) ≡ Some (line_with Inline 1 (codes "--help") (codes "out"))
+  pub after_hyphens : line_of (four (codes "--") (codes "inline") (codes "--help") (codes "out"))
+      ≡ Some (line_with Inline 1 (codes "--help") (codes "out"))
   pub gen : line_of (codes "gen" ∷ codes "007" ∷ codes "out" ∷ []) ≡ Some (line_with Gen 1 (codes "007") (codes "out"))
   pub number : generated_number (codes "007") ≡ Some 7
   pub highest : generated_number (codes "18446744073709551615") ≡ Some 18446744073709551615
@@ -29,9 +37,11 @@ pub record Samples : Type 0 where
   pub mode : line_of (codes "runs" ∷ codes "c.toml" ∷ codes "out" ∷ []) ≡ None
   pub too_many : line_of (codes "--workers" ∷ four (codes "17") (codes "run") (codes "c.toml") (codes "out")) ≡ None
   pub no_workers : line_of (codes "--workers" ∷ four (codes "0") (codes "inline") (codes "c.toml") (codes "out")) ≡ None
-  pub leading_zero : line_of (codes "--workers" ∷ four (codes "01") (codes "inline") (codes "c.toml") (codes "out")) ≡ None
+  pub leading_zero : line_of (codes "--workers" ∷ four (codes "01") (codes "inline") (codes "c.toml") (codes "out"))
+      ≡ None
   pub sign : line_of (codes "--workers" ∷ four (codes "+1") (codes "inline") (codes "c.toml") (codes "out")) ≡ None
-  pub twice : line_of (codes "--workers" ∷ codes "3" ∷ codes "--workers" ∷ four (codes "4") (codes "inline") (codes "c.toml") (codes "out")) ≡ None
+  pub twice : line_of (codes "--workers" ∷ codes "3" ∷ codes "--workers"
+      ∷ four (codes "4") (codes "inline") (codes "c.toml") (codes "out")) ≡ None
   pub too_high : line_of (codes "gen" ∷ codes "18446744073709551616" ∷ codes "out" ∷ []) ≡ None
   pub too_many_digits : line_of (codes "gen" ∷ codes "000000000000000000007" ∷ codes "out" ∷ []) ≡ None
   pub no_plain_folder : line_of (codes "gen" ∷ codes "7" ∷ codes "my out" ∷ []) ≡ None

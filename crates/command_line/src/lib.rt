@@ -47,7 +47,8 @@ pub struct CommandLine<'a> {
     pub out: &'a str,
 }
 
-/// The line that the words after the program's name are, and none exactly where they are no line. A request for help is none.
+/// The line that the words after the program's name are, and none exactly where they are no line. A request for help is
+/// none.
 pub fn read_words<'a>(
     alloc: Global,
     words: &'a [String],

@@ -12,7 +12,8 @@ use clap::ArgMatches;
 
 /// Mode `gen`, where CHAINS is a number and OUT a plain folder.
 fn gen_of(chains: &str, out: &str) -> Option<Mode>
-    ensures mode { option_map mode_view result ≡ (if spec.fits_mode spec.Gen chains.now out.now then Some spec.Gen else None) }
+    ensures mode { option_map mode_view result
+        ≡ (if spec.fits_mode spec.Gen chains.now out.now then Some spec.Gen else None) }
     ensures generated { IfSome result (λ m. IsModeOf m chains.now out.now) }
 {
     let number = generated_number(chains)?;

@@ -14,4 +14,5 @@ pub record StaysRight (header : List ℕ) : Type 0 where
 
 -- Where a frame has the IPv4 layer, a header checksum that is right is right after each edit of a field.
 abbrev pub EditsKeepRight : Type 0
-EditsKeepRight = (frame : List ℕ) (l : Layer) → IsBytes frame → ip4_layer frame ≡ Some l → IsIp4Right (header_in frame l) → StaysRight (header_in frame l)
+EditsKeepRight = (frame : List ℕ) (l : Layer) → IsBytes frame → ip4_layer frame ≡ Some l
+    → IsIp4Right (header_in frame l) → StaysRight (header_in frame l)

@@ -9,8 +9,8 @@ ghost use Rattle.eth_ip.specs.LayerLaws.{ethernet_length_fits, ethernet_length-t
 use crate::words::read_word;
 use brick_base::{Proto, Raw};
 
-/// The Ethernet II layer, at the front of a frame: destination in 6 bytes, source in 6, type in 2. Its payload goes to the
-/// frame's end.
+/// The Ethernet II layer, at the front of a frame: destination in 6 bytes, source in 6, type in 2. Its payload goes to
+/// the frame's end.
 #[derive(Clone, Copy, Debug, PartialEq, Eq)]
 pub struct Eth;
 

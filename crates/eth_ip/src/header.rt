@@ -2,8 +2,10 @@
 
 ghost use Rattle.std.specs.Prelude.{◌≡◌, ℕ, ◌+◌, ◌≤◌, ◌↔◌, IsTrue, length};
 ghost use Rattle.brick_spec.specs.Header.{word_at, number_at};
-ghost use Rattle.brick_spec.specs.Layer.{ip4_total, tos_of, ident_of, more_fragments, fragment_offset, ttl_of, protocol_of, source_of, destination_of};
-ghost use Rattle.brick_spec.specs.Edit.{with_tos, with_ttl, with_source, with_destination, ip4_checksum, IsIp4Right, with_total};
+ghost use Rattle.brick_spec.specs.Layer.{ip4_total, tos_of, ident_of, more_fragments, fragment_offset, ttl_of};
+ghost use Rattle.brick_spec.specs.Layer.{protocol_of, source_of, destination_of};
+ghost use Rattle.brick_spec.specs.Edit.{with_tos, with_ttl, with_source, with_destination, ip4_checksum, IsIp4Right};
+ghost use Rattle.brick_spec.specs.Edit.{with_total};
 
 use crate::words::{edit_word, read_word, write_word};
 use brick_base::{adjust, checksum};
@@ -99,8 +101,8 @@ pub fn is_header_ok(header: &[u8]) -> bool
     stored == right
 }
 
-/// Sets the type of service of a header, and adjusts its checksum for that (RFC 1624, equation 3). The old checksum need not be
-/// right.
+/// Sets the type of service of a header, and adjusts its checksum for that (RFC 1624, equation 3). The old checksum
+/// need not be right.
 pub fn set_header_tos(header: &mut [u8], tos: u8)
     requires { 20 ≤ length header.old }
     ensures { header.new ≡ with_tos header.old tos }
@@ -109,8 +111,8 @@ pub fn set_header_tos(header: &mut [u8], tos: u8)
     edit_word(header, 10, 0, first as u16 * 256 + tos as u16);
 }
 
-/// Sets the time to live of a header, and adjusts its checksum for that (RFC 1624, equation 3). The old checksum need not be
-/// right.
+/// Sets the time to live of a header, and adjusts its checksum for that (RFC 1624, equation 3). The old checksum need
+/// not be right.
 pub fn set_header_ttl(header: &mut [u8], ttl: u8)
     requires { 20 ≤ length header.old }
     ensures { header.new ≡ with_ttl header.old ttl }
@@ -119,8 +121,8 @@ pub fn set_header_ttl(header: &mut [u8], ttl: u8)
     edit_word(header, 10, 8, ttl as u16 * 256 + protocol as u16);
 }
 
-/// Sets the source of a header, and adjusts its checksum for that, word by word (RFC 1624, equation 3). The old checksum need
-/// not be right.
+/// Sets the source of a header, and adjusts its checksum for that, word by word (RFC 1624, equation 3). The old
+/// checksum need not be right.
 pub fn set_header_source(header: &mut [u8], address: u32)
     requires { 20 ≤ length header.old }
     ensures { header.new ≡ with_source header.old address }
@@ -129,8 +131,8 @@ pub fn set_header_source(header: &mut [u8], address: u32)
     edit_word(header, 10, 14, (address % 65536) as u16);
 }
 
-/// Sets the destination of a header, and adjusts its checksum for that, word by word (RFC 1624, equation 3). The old checksum
-/// need not be right.
+/// Sets the destination of a header, and adjusts its checksum for that, word by word (RFC 1624, equation 3). The old
+/// checksum need not be right.
 pub fn set_header_destination(header: &mut [u8], address: u32)
     requires { 20 ≤ length header.old }
     ensures { header.new ≡ with_destination header.old address }

@@ -8,8 +8,8 @@ use crate::ethernet::Eth;
 use crate::words::read_word;
 use brick_base::Proto;
 
-/// The IPv4 layer, in the payload of an Ethernet frame of type 0800. Its payload goes to the total length, or to where the
-/// captured bytes end, whichever comes first.
+/// The IPv4 layer, in the payload of an Ethernet frame of type 0800. Its payload goes to the total length, or to where
+/// the captured bytes end, whichever comes first.
 #[derive(Clone, Copy, Debug, PartialEq, Eq)]
 pub struct Ip4;
 

@@ -2,7 +2,8 @@
 
 ghost use Rattle.std.specs.Prelude.{◌≡◌, ℕ, ◌%◌, ◌≤◌, ◌↔◌, IsTrue, length};
 ghost use Rattle.brick_spec.specs.Header.{word_at};
-ghost use Rattle.brick_spec.specs.Layer.{ip4_total, tos_of, ident_of, more_fragments, fragment_offset, ttl_of, protocol_of, source_of, destination_of};
+ghost use Rattle.brick_spec.specs.Layer.{ip4_total, tos_of, ident_of, more_fragments, fragment_offset, ttl_of};
+ghost use Rattle.brick_spec.specs.Layer.{protocol_of, source_of, destination_of};
 ghost use Rattle.brick_spec.specs.Edit.{with_tos, with_ttl, with_source, with_destination, IsIp4Right, with_total};
 
 use crate::header::{
@@ -213,7 +214,8 @@ impl<'a> Ip4Mut<'a> {
         self.as_view().header_ok()
     }
 
-    /// Sets the type of service, and adjusts the checksum for that (RFC 1624, equation 3). The old checksum need not be right.
+    /// Sets the type of service, and adjusts the checksum for that (RFC 1624, equation 3). The old checksum need not be
+    /// right.
     pub fn set_tos(&mut self, v: u8)
         ensures same_reference { self.new.header.ghost_name ≡ self.old.header.ghost_name }
         ensures bytes { self.new.header.now ≡ with_tos self.old.header.now v }
@@ -221,7 +223,8 @@ impl<'a> Ip4Mut<'a> {
         set_header_tos(self.header, v);
     }
 
-    /// Sets the time to live, and adjusts the checksum for that (RFC 1624, equation 3). The old checksum need not be right.
+    /// Sets the time to live, and adjusts the checksum for that (RFC 1624, equation 3). The old checksum need not be
+    /// right.
     pub fn set_ttl(&mut self, v: u8)
         ensures same_reference { self.new.header.ghost_name ≡ self.old.header.ghost_name }
         ensures bytes { self.new.header.now ≡ with_ttl self.old.header.now v }
@@ -229,7 +232,8 @@ impl<'a> Ip4Mut<'a> {
         set_header_ttl(self.header, v);
     }
 
-    /// Sets the source, and adjusts the checksum for its two words (RFC 1624, equation 3). The old checksum need not be right.
+    /// Sets the source, and adjusts the checksum for its two words (RFC 1624, equation 3). The old checksum need not be
+    /// right.
     pub fn set_src(&mut self, v: u32)
         ensures same_reference { self.new.header.ghost_name ≡ self.old.header.ghost_name }
         ensures bytes { self.new.header.now ≡ with_source self.old.header.now v }
@@ -237,7 +241,8 @@ impl<'a> Ip4Mut<'a> {
         set_header_source(self.header, v);
     }
 
-    /// Sets the destination, and adjusts the checksum for its two words (RFC 1624, equation 3). The old checksum need not be right.
+    /// Sets the destination, and adjusts the checksum for its two words (RFC 1624, equation 3). The old checksum need
+    /// not be right.
     pub fn set_dst(&mut self, v: u32)
         ensures same_reference { self.new.header.ghost_name ≡ self.old.header.ghost_name }
         ensures bytes { self.new.header.now ≡ with_destination self.old.header.now v }

@@ -23,8 +23,8 @@ pub fn write_word(header: &mut [u8], at: usize, word: u16)
     BigEndian::write_u16(&mut header[at..], word);
 }
 
-/// Sets the word at a place, and adjusts the checksum, which is the word at `sum`, for that (RFC 1624, equation 3). The old
-/// checksum need not be right.
+/// Sets the word at a place, and adjusts the checksum, which is the word at `sum`, for that (RFC 1624, equation 3). The
+/// old checksum need not be right.
 pub fn edit_word(header: &mut [u8], sum: usize, at: usize, word: u16)
     requires checksum { sum + 2 ≤ length header.old }
     requires within { at + 2 ≤ length header.old }

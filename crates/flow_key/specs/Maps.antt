@@ -22,7 +22,13 @@ after_frames plan frames = record { plan = plan; known = spec.known_of plan fram
 
 -- and once a record of this five-tuple is classified too
 abbrev pub after_record : ClassifierModel → Option Tuple → ClassifierModel
-after_record c t = record { plan = c.plan; known = record { flows = spec.flows_after c.plan c.known.flows c.known.records t; records = c.known.records + 1 } }
+after_record c t = record {
+  plan = c.plan;
+  known = record {
+    flows = spec.flows_after c.plan c.known.flows c.known.records t;
+    records = c.known.records + 1;
+  };
+}
 
 -- the class of that record
 abbrev pub class_of_record : ClassifierModel → Option Tuple → Class
@@ -42,16 +48,19 @@ pub record AreRanks (flows : List spec.Opened) (ranks : List ℕ) : Type 0 where
 
 -- no two flows have one key: a search for the key of a flow finds that flow
 abbrev pub HaveOwnKeys : List spec.Opened → Type 0
-HaveOwnKeys flows = (i : ℕ) (k : spec.Key) → i < length flows → spec.has_key k (spec.flow_at flows i) ≡ true → position (spec.has_key k) flows ≡ Some i
+HaveOwnKeys flows = (i : ℕ) (k : spec.Key) → i < length flows → spec.has_key k (spec.flow_at flows i) ≡ true
+    → position (spec.has_key k) flows ≡ Some i
 
 -- the maps find what a search of the flows finds
-pub record AreFound (flows : List spec.Opened) (keys : BTreeMap Key ℕ) (other : Option ℕ) (ranks : List ℕ) : Type 0 where
+pub record AreFound (flows : List spec.Opened) (keys : BTreeMap Key ℕ) (other : Option ℕ)
+    (ranks : List ℕ) : Type 0 where
   pub by_key : (k : Key) → get key_cmp keys k ≡ position (spec.has_key (key_view k)) flows
   pub own_keys : HaveOwnKeys flows
   pub by_other : other ≡ position spec.is_other_flow flows
   pub by_rank : AreRanks flows ranks
 
-pub record AreMaps (flows : List spec.Opened) (keys : BTreeMap Key ℕ) (other : Option ℕ) (ranks : List ℕ) (records : ℕ) : Type 0 where
+pub record AreMaps (flows : List spec.Opened) (keys : BTreeMap Key ℕ) (other : Option ℕ) (ranks : List ℕ)
+    (records : ℕ) : Type 0 where
   pub found : AreFound flows keys other ranks
   pub few : length flows ≤ records
   pub counted : records ≤ 2 ^ 32

@@ -18,7 +18,8 @@ pub fn classify_all(
     nat: Option<NatPlan>,
     capture: &Capture,
 ) -> Result<Vec<Class>, NoMemory>
-    ensures { IfOk result (λ classes. map class_view classes.items ≡ spec.classes_of (option_map plan_view nat) (frames_of capture.now)) }
+    ensures { IfOk result (λ classes. map class_view classes.items
+        ≡ spec.classes_of (option_map plan_view nat) (frames_of capture.now)) }
 {
     let mut classifier = Classifier::new(alloc, nat)?;
     let mut classes = Vec::with_capacity(alloc, capture.count() as usize)?;

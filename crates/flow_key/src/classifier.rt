@@ -1,6 +1,7 @@
 //! The classifier.
 
-ghost use Rattle.std.specs.Prelude.{◌≡◌, ◌<◌, ◌+◌, ◌^◌, ℕ, Option, Some, None, List, [], ◌∷◌, ◌++◌, length, IfOk, OnOk, OnErr, cond, vec_len, map, option_map};
+ghost use Rattle.std.specs.Prelude.{◌≡◌, ◌<◌, ◌+◌, ◌^◌, ℕ, Option, Some, None, List, [], ◌∷◌, ◌++◌, length, IfOk, OnOk};
+ghost use Rattle.std.specs.Prelude.{OnErr, cond, vec_len, map, option_map};
 ghost use Rattle.std.specs.Vec.{vec_capacity};
 ghost use Rattle.std.specs.Option.{is_none};
 ghost use Rattle.std.specs.BTreeMap.{get};
@@ -23,7 +24,8 @@ use std::fmt;
 use std::marker::Model;
 use tcp_udp::Tuple;
 
-/// Tells of which flow each record of a capture is, in the order of the records. It keeps the flows that were opened, and no frame.
+/// Tells of which flow each record of a capture is, in the order of the records. It keeps the flows that were opened,
+/// and no frame.
 #[derive(Drop)]
 pub struct Classifier {
     plan: Option<NatPlan>,
@@ -45,7 +47,10 @@ impl Model for Classifier {
 
     ghost Value = { ClassifierModel };
 
-    ghost view = { λ c. record { plan = option_map plan_view c.plan; known = record { flows = map opened_view c.flows.items; records = c.records } } };
+    ghost view = { λ c. record {
+      plan = option_map plan_view c.plan;
+      known = record { flows = map opened_view c.flows.items; records = c.records };
+    } };
 
     ghost invariant = { λ c. AreMaps (map opened_view c.flows.items) c.keys c.other c.ranks.items c.records };
 }
@@ -82,8 +87,10 @@ impl Classifier {
     /// The class of the next record, by its frame and by the frames so far. Without memory nothing changes.
     pub fn classify(&mut self, frame: &[u8]) -> Result<Class, NoMemory>
         requires { self.old.known.records < 2 ^ 32 }
-        ensures class { (plan : Option spec.NatPlan) (frames : List (List ℕ)) → self.old ≡ after_frames plan frames → IfOk result (λ c. class_view c ≡ spec.class_of plan frames frame.now) }
-        ensures known { (plan : Option spec.NatPlan) (frames : List (List ℕ)) → self.old ≡ after_frames plan frames → OnOk result (self.new ≡ after_frames plan (frames ++ frame.now ∷ [])) }
+        ensures class { (plan : Option spec.NatPlan) (frames : List (List ℕ)) → self.old ≡ after_frames plan frames
+            → IfOk result (λ c. class_view c ≡ spec.class_of plan frames frame.now) }
+        ensures known { (plan : Option spec.NatPlan) (frames : List (List ℕ)) → self.old ≡ after_frames plan frames
+            → OnOk result (self.new ≡ after_frames plan (frames ++ frame.now ∷ [])) }
         ensures err { OnErr result (self.new ≡ self.old) }
     {
         self.see(&Tuple::read(frame))
@@ -142,7 +149,10 @@ fn put_key(
     tuple: &Option<Tuple>,
     number: u32,
 ) -> Result<(), NoMemory>
-    ensures keys { OnOk result ((q : Key) → get key_cmp keys.new q ≡ cond (spec.has_first_key (key_view q) (option_map tuple_view tuple.now)) (Some number) (get key_cmp keys.old q)) }
+    ensures keys { OnOk result ((q : Key)
+        → get key_cmp keys.new q
+        ≡ cond (spec.has_first_key (key_view q) (option_map tuple_view tuple.now)) (Some number)
+        (get key_cmp keys.old q)) }
     ensures other { OnOk result (other.new ≡ cond (is_none tuple.now) (Some number) other.old) }
     ensures keys_stay { OnErr result ((q : Key) → get key_cmp keys.new q ≡ get key_cmp keys.old q) }
     ensures other_stays { OnErr result (other.new ≡ other.old) }

@@ -8,8 +8,8 @@ pub fn numbers_tell_flows()
     ensures { NumbersTellFlows }
 {}
 
-/// A law: a flow's number is how many records before its first one opened a flow, its rank how many of these opened a flow with a
-/// rank, and `opened` is its first record.
+/// A law: a flow's number is how many records before its first one opened a flow, its rank how many of these opened a
+/// flow with a rank, and `opened` is its first record.
 pub fn flows_are_counted()
     ensures { FlowsAreCounted }
 {}

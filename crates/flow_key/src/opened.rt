@@ -7,8 +7,8 @@ ghost use Rattle.tcp_udp.specs.View.{tuple_view};
 use crate::ends::flow_hash;
 use tcp_udp::Tuple;
 
-/// A flow: the five-tuple of its first record, none for the flow of class Other, its rank where it has one, the number of that
-/// record, and the hash of the flow's key.
+/// A flow: the five-tuple of its first record, none for the flow of class Other, its rank where it has one, the number
+/// of that record, and the hash of the flow's key.
 #[derive(Clone, Copy, Debug)]
 pub(crate) struct Opened {
     pub(crate) first: Option<Tuple>,
@@ -23,7 +23,8 @@ impl Opened {
 
     /// The flow that a record of this five-tuple opens, by its rank and the record's number.
     pub(crate) fn by(first: &Option<Tuple>, rank: Option<u32>, opened: u32) -> Opened
-        ensures { opened_view result ≡ record { first = option_map tuple_view first.now; rank = rank; opened = opened } }
+        ensures { opened_view result
+            ≡ record { first = option_map tuple_view first.now; rank = rank; opened = opened } }
     {
         Opened {
             first: *first,

@@ -23,7 +23,8 @@ impl NatPlan {
     /// The plan, where there are so many ports from `base` on.
     pub fn new(inside: Prefix, outside: u32, base: u16, ports: u32) -> Option<NatPlan>
         ensures valid { IsSome result ↔ ((1 ≤ ports) × (base + ports ≤ 65536)) }
-        ensures value { IfSome result (λ p. (p.inside ≡ inside) × (p.outside ≡ outside) × (p.base ≡ base) × (p.ports ≡ ports)) }
+        ensures value { IfSome result (λ p. (p.inside ≡ inside) × (p.outside ≡ outside) × (p.base ≡ base)
+            × (p.ports ≡ ports)) }
     {
         if ports == 0 || base as u64 + ports as u64 > 65536 {
             return None;

@@ -49,7 +49,8 @@ fn rank_of(plan: &NatPlan, tuple: &Tuple) -> Option<u32>
 /// The flow of which the frame is a reply: at most one has its rank.
 fn reply_in(plan: &NatPlan, flows: &[Opened], ranks: &[u32], tuple: &Tuple) -> Option<u32>
     requires { AreRanks (map opened_view flows.now) ranks.now }
-    ensures reply { result ≡ position (spec.is_reply (plan_view plan.now) (tuple_view tuple.now)) (map opened_view flows.now) }
+    ensures reply { result
+        ≡ position (spec.is_reply (plan_view plan.now) (tuple_view tuple.now)) (map opened_view flows.now) }
     ensures within { IfSome result (λ number. number < length flows.now) }
 {
     match rank_of(plan, tuple) {
@@ -140,7 +141,8 @@ pub(crate) fn find(
     tuple: &Option<Tuple>,
 ) -> Option<(u32, Dir)>
     requires { AreFound (map opened_view flows.now) keys.now other ranks.now }
-    ensures found { found_view result ≡ spec.found_in (option_map plan_view plan.now) (map opened_view flows.now) (option_map tuple_view tuple.now) }
+    ensures found { found_view result
+        ≡ spec.found_in (option_map plan_view plan.now) (map opened_view flows.now) (option_map tuple_view tuple.now) }
     ensures within { IfSome result (λ found. found.0 < length flows.now) }
 {
     if let Some(number) = reply_of(plan, flows, ranks, tuple) {
@@ -159,7 +161,8 @@ fn reply_of(
     tuple: &Option<Tuple>,
 ) -> Option<u32>
     requires { AreRanks (map opened_view flows.now) ranks.now }
-    ensures reply { result ≡ spec.reply_of (option_map plan_view plan.now) (map opened_view flows.now) (option_map tuple_view tuple.now) }
+    ensures reply { result
+        ≡ spec.reply_of (option_map plan_view plan.now) (map opened_view flows.now) (option_map tuple_view tuple.now) }
     ensures within { IfSome result (λ number. number < length flows.now) }
 {
     match (plan, tuple) {
@@ -186,7 +189,8 @@ fn has_key(key: &Key, first: &Option<Tuple>) -> bool
 /// The flow of the key, where it was opened last of those with the key's slot.
 fn recent_of(flows: &[Opened], recent: &[u32], key: &Key) -> Option<u32>
     requires { HaveOwnKeys (map opened_view flows.now) }
-    ensures same { IfSome result (λ number. Some number ≡ position (spec.has_key (key_view key.now)) (map opened_view flows.now)) }
+    ensures same { IfSome result (λ number. Some number
+        ≡ position (spec.has_key (key_view key.now)) (map opened_view flows.now)) }
     ensures within { IfSome result (λ number. number < length flows.now) }
 {
     let slot = slot_of(key);
@@ -211,7 +215,8 @@ fn same_key_of(
     other: Option<u32>,
     tuple: &Option<Tuple>,
 ) -> Option<u32>
-    requires key { (k : Key) → get key_cmp keys.now k ≡ position (spec.has_key (key_view k)) (map opened_view flows.now) }
+    requires key { (k : Key)
+        → get key_cmp keys.now k ≡ position (spec.has_key (key_view k)) (map opened_view flows.now) }
     requires own { HaveOwnKeys (map opened_view flows.now) }
     requires other { other ≡ position spec.is_other_flow (map opened_view flows.now) }
     ensures same { result ≡ spec.same_key_of (map opened_view flows.now) (option_map tuple_view tuple.now) }

@@ -1,5 +1,7 @@
--- What a plan answers for the items of many flows: a list for each leaf group, and how many items were dropped for each reason.
-use Rattle.std.specs.Prelude.{ℕ, List, [], ◌∷◌, ◌++◌, map, filter, flat_map, count_by, Option, Some, Bool, nat_eq, min, if◌then◌else◌}
+-- What a plan answers for the items of many flows: a list for each leaf group, and how many items were dropped for each
+-- reason.
+use Rattle.std.specs.Prelude.{ℕ, List, [], ◌∷◌, ◌++◌, map, filter, flat_map, count_by, Option, Some, Bool, nat_eq, min}
+use Rattle.std.specs.Prelude.{if◌then◌else◌}
 use Rattle.std.specs.List.{list_any, range_with_len, slice_index_or}
 use Rattle.brick_spec.specs.Flow.{Flow, Class}
 use Rattle.brick_spec.specs.FlowStage.{FlowItem, Drop, FlowInput}
@@ -84,15 +86,18 @@ counts_of rs = map (λ place. count_by (is_at place) rs) (range_with_len 0 9)
 abbrev pub drop_counts : Plan → Option ℕ → List ClassedItem → List ℕ
 drop_counts plan ended list = counts_of (map (λ d. d.reason) (dropped_of plan ended list))
 
--- THE ANSWER, when all flows have ended, in a capture of n records: the lists of the leaf groups, and nine counts, each of 32 bits,
--- which stand still at the last value
+-- THE ANSWER, when all flows have ended, in a capture of n records: the lists of the leaf groups, and nine counts, each
+-- of 32 bits, which stand still at the last value
 
 pub record Answer : Type 0 where
   pub groups : List (List Item)
   pub drops : List ℕ
 
 abbrev pub answer : Plan → List ClassedItem → ℕ → Answer
-answer plan list n = record { groups = leaf_lists plan (Some n) list; drops = map (min 4294967295) (drop_counts plan (Some n) list) }
+answer plan list n = record {
+  groups = leaf_lists plan (Some n) list;
+  drops = map (min 4294967295) (drop_counts plan (Some n) list);
+}
 
 -- OUTPUTS
 
@@ -102,7 +107,8 @@ lists_of o [] lists = []
 lists_of o (k ∷ ks) [] = []
 lists_of o (k ∷ ks) (list ∷ lists) = if nat_eq k o then list ∷ lists_of o ks lists else lists_of o ks lists
 
--- An output's items: those of all its leaf groups, in the order of keys. Of one key the earlier leaf group's stands first.
+-- An output's items: those of all its leaf groups, in the order of keys. Of one key the earlier leaf group's stands
+-- first.
 abbrev pub output_list : List ℕ → List (List Item) → ℕ → List Item
 output_list outputs lists o = in_key_order (all_of (lists_of o outputs lists))
 

@@ -53,7 +53,7 @@ made_below flow row (Inner ls) = staged (row flow) (map (leaf_part flow) ls)
 abbrev pub group_part : Flow → GroupPlan → Part
 group_part flow g = record { takes = takes_by g.wanted; makes = made_below flow g.row g.below }
 
--- What the plan makes of a flow: its items go through the stages and are shared among the groups, and go through the group's stages;
--- where it has groups in it they are shared again.
+-- What the plan makes of a flow: its items go through the stages and are shared among the groups, and go through the
+-- group's stages; where it has groups in it they are shared again.
 abbrev pub flow_meaning : Plan → Flow → FlowInput → Parts
 flow_meaning plan flow = staged (plan.row flow) (map (group_part flow) plan.groups)

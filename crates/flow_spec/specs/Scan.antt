@@ -1,5 +1,6 @@
 -- Stage `scan`: a flow is stopped once the bytes of one of its TCP streams, in order, contain a text.
-use Rattle.std.specs.Prelude.{ℕ, nat_eq, Bool, ◌||◌, List, [], ◌∷◌, ◌++◌, length, drop, find, Option, Some, None, is_some, if◌then◌else◌, Ok, Err}
+use Rattle.std.specs.Prelude.{ℕ, nat_eq, Bool, ◌||◌, List, [], ◌∷◌, ◌++◌, length, drop, find, Option, Some, None}
+use Rattle.std.specs.Prelude.{is_some, if◌then◌else◌, Ok, Err}
 use Rattle.std.specs.List.{range_with_len, starts_with}
 use Rattle.brick_spec.specs.Flow.{Forward, Reversed}
 use Rattle.brick_spec.specs.FlowStage.{FlowItem, FlowOutput, FlowStage, nothing, left_by}
@@ -20,10 +21,11 @@ occurs_in text bytes = is_some (first_occurrence text bytes)
 
 -- the text occurs in one of the two streams of these items
 abbrev pub is_found : List ℕ → ℕ → List FlowItem → Bool
-is_found text reach items = occurs_in text (bytes_in_order (stream_of reach Forward items)) || occurs_in text (bytes_in_order (stream_of reach Reversed items))
+is_found text reach items = occurs_in text (bytes_in_order (stream_of reach Forward items)) || occurs_in text
+    (bytes_in_order (stream_of reach Reversed items))
 
--- An item without the TCP layer passes. Another is dropped where the text occurs in the streams of the items up to it, whether or not
--- these were dropped here.
+-- An item without the TCP layer passes. Another is dropped where the text occurs in the streams of the items up to it,
+-- whether or not these were dropped here.
 abbrev pub scanned : Bool → FlowItem → Option StreamSegment → FlowOutput
 scanned found x None = left_by x (Ok x.item)
 scanned found x (Some s) = left_by x (if found then Err Filter else Ok x.item)

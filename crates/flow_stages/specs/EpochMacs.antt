@@ -23,7 +23,8 @@ flow_mac epochs macs opened hash = mac_in epochs macs (epoch_of epochs.begins op
 -- each epoch has a list of addresses, and each of its backends an address
 pub record HasMacs (epochs : EpochTables) (macs : List (Vec (List ℕ))) : Type 0 where
   pub each : length macs ≡ length epochs.begins
-  pub backends : (e hash : ℕ) (row : Vec (List ℕ)) → slice_get macs e ≡ Some row → backend_in (slice_index_or epochs.tables e []) hash < length row.items
+  pub backends : (e hash : ℕ) (row : Vec (List ℕ)) → slice_get macs e ≡ Some row
+      → backend_in (slice_index_or epochs.tables e []) hash < length row.items
 
 -- the stage of these tables and addresses
 abbrev pub balance_by : EpochTables → List (Vec (List ℕ)) → Flow → FlowStage

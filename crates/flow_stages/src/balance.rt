@@ -19,7 +19,8 @@ use packet_owner::Packet;
 use read_row::{ReadPacket, TreatRead, treat_packet};
 use std::alloc::Global;
 
-/// Sends each flow to the backend that the balance table of its epoch has for the hash of its key: the epoch in which it was opened.
+/// Sends each flow to the backend that the balance table of its epoch has for the hash of its key: the epoch in which
+/// it was opened.
 #[derive(Debug, Drop)]
 pub struct BalanceStage {
     /// Which backend a flow goes to.
@@ -40,7 +41,9 @@ impl BalanceStage {
         requires first { AreFew backends.now }
         requires later { AllByRecursion change_few changes.now }
         requires few { length changes.now ≤ 15 }
-        ensures { IfOk result (λ s. (flow : Flow) → balance_by s.epochs s.macs.items flow ≡ balance_stage (backends_view backends.now) (map change_view changes.now) flow) }
+        ensures { IfOk result (λ s. (flow : Flow)
+            → balance_by s.epochs s.macs.items flow
+            ≡ balance_stage (backends_view backends.now) (map change_view changes.now) flow) }
     {
         let rows = epochs_of(alloc, backends, changes)?;
         let macs = addresses_of(alloc, backends, changes)?;

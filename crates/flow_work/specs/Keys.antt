@@ -12,7 +12,8 @@ pub record Keeps (P : FlowItem → Type 0) (n : ℕ) (s : FlowStage) : Type 0 wh
 
 -- each stage keeps a flow's keys
 abbrev pub RowKeeps : Row → Type 0
-RowKeeps row = (owner : ℕ → ℕ) (f : Flow) (n : ℕ) → owner (n + f.number) ≡ f.number → AllByRecursion (Keeps (λ x. owner x.item.a ≡ f.number) n) (row f)
+RowKeeps row = (owner : ℕ → ℕ) (f : Flow) (n : ℕ) → owner (n + f.number) ≡ f.number
+    → AllByRecursion (Keeps (λ x. owner x.item.a ≡ f.number) n) (row f)
 
 abbrev pub BelowKeeps : Below → Type 0
 BelowKeeps Output = Unit {0}

@@ -34,19 +34,24 @@ IsMade p q = (p.lists ≡ q.lists) × IsPermutation p.dropped q.dropped
 
 -- WHAT CALLS DO
 
--- what stood, at a flow that has not ended, for what came and what that made, stands for it with these items more, or its end, and
--- with this made more
-abbrev pub GoesParts : {N : Type 0} → (N → Flow → FlowInput → Parts → Type 0) → N → N → Flow → List FlowItem → Option ℕ → Parts → Type 0
+-- what stood, at a flow that has not ended, for what came and what that made, stands for it with these items more, or
+-- its end, and with this made more
+abbrev pub GoesParts : {N : Type 0} → (N → Flow → FlowInput → Parts → Type 0) → N → N → Flow → List FlowItem → Option ℕ
+    → Parts → Type 0
 GoesParts stands old new flow items ended added =
-    (came : FlowInput) (parts : Parts) → came.ended ≡ None → stands old flow came parts → stands new flow (with_more came items ended) (parts_both parts added)
+    (came : FlowInput) (parts : Parts) → came.ended ≡ None → stands old flow came parts
+    → stands new flow (with_more came items ended) (parts_both parts added)
 
 -- nothing changed at another flow
 abbrev pub OthersStayParts : {N : Type 0} → (N → Flow → FlowInput → Parts → Type 0) → N → N → Flow → Type 0
 OthersStayParts stands old new flow =
-    (other : Flow) (came : FlowInput) (parts : Parts) → other.number ≢ flow.number → stands old other came parts → stands new other came parts
+    (other : Flow) (came : FlowInput) (parts : Parts) → other.number ≢ flow.number → stands old other came parts
+    → stands new other came parts
 
 -- what handling items of a flow, or its end, did
-pub record Went {N : Type 0} (stands : N → Flow → FlowInput → Parts → Type 0) (makes : N → Meaning) (results : N → List (List Item)) (old new : N) (flow : Flow) (items : List FlowItem) (ended : Option ℕ) (added : Parts) : Type 0 where
+pub record Went {N : Type 0} (stands : N → Flow → FlowInput → Parts → Type 0) (makes : N → Meaning) (results : N
+    → List (List Item)) (old new : N) (flow : Flow) (items : List FlowItem) (ended : Option ℕ)
+    (added : Parts) : Type 0 where
   pub goes : GoesParts stands old new flow items ended added
   pub others : OthersStayParts stands old new flow
   -- the lists of its leaf groups grew by what was made
@@ -56,9 +61,12 @@ pub record Went {N : Type 0} (stands : N → Flow → FlowInput → Parts → Ty
   pub same : makes new ≡ makes old
 
 -- what holds of each place
-pub record IsNode {N : Type 0} (stands : N → Flow → FlowInput → Parts → Type 0) (makes : N → Meaning) (results : N → List (List Item)) : Type 0 where
-  pub means : (n : N) (flow : Flow) (came : FlowInput) (parts : Parts) → stands n flow came parts → IsMade parts (makes n flow came)
-  pub many : (n : N) (flow : Flow) (came : FlowInput) (parts : Parts) → stands n flow came parts → length parts.lists ≡ length (results n)
+pub record IsNode {N : Type 0} (stands : N → Flow → FlowInput → Parts → Type 0) (makes : N → Meaning) (results : N
+    → List (List Item)) : Type 0 where
+  pub means : (n : N) (flow : Flow) (came : FlowInput) (parts : Parts) → stands n flow came parts
+      → IsMade parts (makes n flow came)
+  pub many : (n : N) (flow : Flow) (came : FlowInput) (parts : Parts) → stands n flow came parts
+      → length parts.lists ≡ length (results n)
 
 -- A LIST OF ITEMS: all that comes
 
@@ -68,9 +76,11 @@ ListStands came parts = (parts.lists ≡ came.items ∷ []) × (parts.dropped �
 -- A ROW OF STAGES, AND A PLACE BEHIND IT
 
 -- a middle list joins the two
-abbrev pub PipeStands : {P N : Type 0} → (P → Flow → FlowInput → FlowOutput → Type 0) → (N → Flow → FlowInput → Parts → Type 0) → P → N → Flow → FlowInput → Parts → Type 0
+abbrev pub PipeStands : {P N : Type 0} → (P → Flow → FlowInput → FlowOutput → Type 0)
+    → (N → Flow → FlowInput → Parts → Type 0) → P → N → Flow → FlowInput → Parts → Type 0
 PipeStands row_stands stands p n flow came parts =
-    (mid : FlowOutput) × (rest : Parts) × row_stands p flow came mid × stands n flow (record { items = mid.passed; ended = came.ended }) rest
+    (mid : FlowOutput) × (rest : Parts) × row_stands p flow came mid
+    × stands n flow (record { items = mid.passed; ended = came.ended }) rest
     × (parts.lists ≡ rest.lists) × IsPermutation parts.dropped (mid.dropped ++ rest.dropped)
 
 abbrev pub pipe_makes : {P N : Type 0} → (P → Flow → List FlowStage) → (N → Meaning) → P → N → Meaning
@@ -78,17 +88,20 @@ pipe_makes row makes p n flow came = staged_by (row p flow) (makes n flow) came
 
 -- GROUPS: places with a match each
 
-abbrev pub FanStands : {N : Type 0} → (N → Flow → FlowInput → Parts → Type 0) → List (Option Match) → List N → Flow → FlowInput → Parts → Type 0
+abbrev pub FanStands : {N : Type 0} → (N → Flow → FlowInput → Parts → Type 0) → List (Option Match) → List N → Flow
+    → FlowInput → Parts → Type 0
 FanStands stands [] ns flow came parts = (parts.lists ≡ []) × (parts.dropped ≡ map no_group came.items)
 FanStands stands (m ∷ ms) [] flow came parts = (parts.lists ≡ []) × (parts.dropped ≡ map no_group came.items)
 FanStands stands (m ∷ ms) (n ∷ ns) flow came parts =
-    (mine : Parts) × (rest : Parts) × stands n flow (only (takes_by m) came) mine × FanStands stands ms ns flow (only (others (takes_by m)) came) rest
+    (mine : Parts) × (rest : Parts) × stands n flow (only (takes_by m) came) mine
+    × FanStands stands ms ns flow (only (others (takes_by m)) came) rest
     × (parts.lists ≡ mine.lists ++ rest.lists) × IsPermutation parts.dropped (mine.dropped ++ rest.dropped)
 
 abbrev pub fan_parts : {N : Type 0} → (N → Meaning) → Flow → List (Option Match) → List N → List Part
 fan_parts makes flow [] ns = []
 fan_parts makes flow (m ∷ ms) [] = []
-fan_parts makes flow (m ∷ ms) (n ∷ ns) = record { takes = takes_by m; makes = makes n flow } ∷ fan_parts makes flow ms ns
+fan_parts makes flow (m ∷ ms) (n ∷ ns) = record { takes = takes_by m; makes = makes n flow }
+    ∷ fan_parts makes flow ms ns
 
 abbrev pub fan_makes : {N : Type 0} → (N → Meaning) → List (Option Match) → List N → Meaning
 fan_makes makes ms ns flow came = shared (fan_parts makes flow ms ns) came

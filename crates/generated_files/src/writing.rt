@@ -39,11 +39,18 @@ fn write_both<S: Store>(
     chains: &str,
 ) -> Result<(), IoFault>
     requires { string_bytes capture_name ≢ string_bytes chains_name }
-    ensures written { IsTrue S.tells → OnOk result (AllByRecursion (Holds (S.file store.new)) (two_texts (string_bytes capture_name) capture.now (string_bytes chains_name) chains.now)) }
-    ensures stopped { IsTrue S.tells → MayWrite (two_texts (string_bytes capture_name) capture.now (string_bytes chains_name) chains.now) (S.file store.old) (S.file store.new) }
-    ensures cause { IsErrOf result IoFault.Failed → SomeRose cause.generating_account (string_bytes capture_name ∷ string_bytes chains_name ∷ []) (S.faults store.old) (S.faults store.new) }
+    ensures written { IsTrue S.tells
+        → OnOk result (AllByRecursion (Holds (S.file store.new))
+        (two_texts (string_bytes capture_name) capture.now (string_bytes chains_name) chains.now)) }
+    ensures stopped { IsTrue S.tells
+        → MayWrite (two_texts (string_bytes capture_name) capture.now (string_bytes chains_name) chains.now)
+        (S.file store.old) (S.file store.new) }
+    ensures cause { IsErrOf result IoFault.Failed
+        → SomeRose cause.generating_account (string_bytes capture_name ∷ string_bytes chains_name
+        ∷ []) (S.faults store.old) (S.faults store.new) }
     ensures later { (a : ℕ) (n : List ℕ) → S.faults store.old a n ≤ S.faults store.new a n }
-    ensures others { (a : ℕ) (n : List ℕ) → a ≢ cause.generating_account → S.faults store.new a n ≡ S.faults store.old a n }
+    ensures others { (a : ℕ) (n : List ℕ) → a ≢ cause.generating_account
+        → S.faults store.new a n ≡ S.faults store.old a n }
 {
     let texts = [
         Text {
@@ -58,8 +65,8 @@ fn write_both<S: Store>(
     write_texts(alloc, store, GENERATING_ACCOUNT, &texts)
 }
 
-/// Makes the two files of mode `gen` and writes them into the folder `out`, the capture first. They are taken as read: nothing is read
-/// from the store. Where the second is not written the first may be there.
+/// Makes the two files of mode `gen` and writes them into the folder `out`, the capture first. They are taken as read:
+/// nothing is read from the store. Where the second is not written the first may be there.
 pub fn write_generated<S: Store>(
     alloc: Global,
     store: &mut S,
@@ -67,14 +74,19 @@ pub fn write_generated<S: Store>(
     out: &str,
 ) -> Result<Generated, IoFault>
     requires { IsTrue (is_plain_folder out.now) }
-    ensures written { IsTrue S.tells → OnOk result (AllByRecursion (Holds (S.file store.new)) (generated_texts number out.now)
+    ensures written { IsTrue S.tells
+        → OnOk result (AllByRecursion (Holds (S.file store.new)) (generated_texts number out.now)
         × OthersStayOf (names_in (generated_texts number out.now)) (S.file store.old) (S.file store.new)) }
-    ensures stopped { IsTrue S.tells → OnErr result (MayWrite (generated_texts number out.now) (S.file store.old) (S.file store.new)) }
+    ensures stopped { IsTrue S.tells
+        → OnErr result (MayWrite (generated_texts number out.now) (S.file store.old) (S.file store.new)) }
     ensures chain { IfOk result (λ g. chain_view g.chain ≡ generated_chain out.now) }
     ensures capture { IfOk result (λ g. g.capture ≡ generated_contents number 20000) }
-    ensures cause { IsErrOf result IoFault.Failed → SomeRose cause.generating_account (names_in (generated_texts number out.now)) (S.faults store.old) (S.faults store.new) }
+    ensures cause { IsErrOf result IoFault.Failed
+        → SomeRose cause.generating_account (names_in (generated_texts number out.now)) (S.faults store.old)
+        (S.faults store.new) }
     ensures later { (a : ℕ) (n : List ℕ) → S.faults store.old a n ≤ S.faults store.new a n }
-    ensures others { (a : ℕ) (n : List ℕ) → a ≢ cause.generating_account → S.faults store.new a n ≡ S.faults store.old a n }
+    ensures others { (a : ℕ) (n : List ℕ) → a ≢ cause.generating_account
+        → S.faults store.new a n ≡ S.faults store.old a n }
 {
     let Ok(files) = make_files(alloc, number, out) else {
         return Err(IoFault::NoMemory);

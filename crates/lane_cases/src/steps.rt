@@ -31,7 +31,8 @@ fn send_next<K: LaneKit, R: Wait>(
     w: u32,
 ) -> bool
     requires own { K.is_ingest_of lane.now seat.old }
-    requires lane { ((K.lane_facts lane.now).capture ≡ capture.now) × ((K.lane_facts lane.now).bytes ≡ 64) × (1 ≤ (K.lane_facts lane.now).buffers) }
+    requires lane { ((K.lane_facts lane.now).capture ≡ capture.now) × ((K.lane_facts lane.now).bytes ≡ 64)
+        × (1 ≤ (K.lane_facts lane.now).buffers) }
     requires shares { (K.lane_facts lane.now).shares ≡ length capture.now.entries ∷ length capture.now.entries ∷ [] }
     requires worker { w < 2 }
     requires there { k < length capture.now.entries }
@@ -70,7 +71,8 @@ fn take_next<K: LaneKit, R: Wait>(rt: &R, lane: &K::Lane, seat: &mut K::Worker) 
     }
 }
 
-/// Whether the step of the ingest found what it must. `sends` says to whom the next record goes; else the claim must find nothing.
+/// Whether the step of the ingest found what it must. `sends` says to whom the next record goes; else the claim must
+/// find nothing.
 fn ingest_step<K: LaneKit, R: Wait>(
     rt: &R,
     lane: &K::Lane,
@@ -80,12 +82,15 @@ fn ingest_step<K: LaneKit, R: Wait>(
     sends: Option<Worker>,
 ) -> bool
     requires own { K.is_ingest_of lane.now seat.old }
-    requires lane { ((K.lane_facts lane.now).capture ≡ capture.now) × ((K.lane_facts lane.now).bytes ≡ 64) × (1 ≤ (K.lane_facts lane.now).buffers) }
+    requires lane { ((K.lane_facts lane.now).capture ≡ capture.now) × ((K.lane_facts lane.now).bytes ≡ 64)
+        × (1 ≤ (K.lane_facts lane.now).buffers) }
     requires shares { (K.lane_facts lane.now).shares ≡ length capture.now.entries ∷ length capture.now.entries ∷ [] }
     requires going { progress.old.finished ≡ false → HasSentTwo progress.old.next (K.ingest_facts seat.old) }
     ensures own { K.is_ingest_of lane.now seat.new }
-    ensures going { result ≡ true → (progress.new.finished ≡ false) × HasSentTwo progress.new.next (K.ingest_facts seat.new) }
-    ensures workers { (progress.new.first_ended ≡ progress.old.first_ended) × (progress.new.second_ended ≡ progress.old.second_ended) }
+    ensures going { result ≡ true
+        → (progress.new.finished ≡ false) × HasSentTwo progress.new.next (K.ingest_facts seat.new) }
+    ensures workers { (progress.new.first_ended ≡ progress.old.first_ended)
+        × (progress.new.second_ended ≡ progress.old.second_ended) }
 {
     if progress.finished || progress.next >= capture.count() {
         return false;
@@ -137,12 +142,17 @@ fn one_step<K: LaneKit, R: Wait>(
     progress: &mut Progress,
     step: Step,
 ) -> bool
-    requires own { K.is_ingest_of lane.now ingest.old × K.is_worker_of lane.now first.old × K.is_worker_of lane.now second.old }
-    requires lane { ((K.lane_facts lane.now).capture ≡ capture.now) × ((K.lane_facts lane.now).bytes ≡ 64) × (1 ≤ (K.lane_facts lane.now).buffers) }
+    requires own { K.is_ingest_of lane.now ingest.old × K.is_worker_of lane.now first.old
+        × K.is_worker_of lane.now second.old }
+    requires lane { ((K.lane_facts lane.now).capture ≡ capture.now) × ((K.lane_facts lane.now).bytes ≡ 64)
+        × (1 ≤ (K.lane_facts lane.now).buffers) }
     requires shares { (K.lane_facts lane.now).shares ≡ length capture.now.entries ∷ length capture.now.entries ∷ [] }
-    requires at_step { IsAtStep progress.old (K.ingest_facts ingest.old) (K.worker_facts first.old) (K.worker_facts second.old) }
-    ensures own { K.is_ingest_of lane.now ingest.new × K.is_worker_of lane.now first.new × K.is_worker_of lane.now second.new }
-    ensures at_step { result ≡ true → IsAtStep progress.new (K.ingest_facts ingest.new) (K.worker_facts first.new) (K.worker_facts second.new) }
+    requires at_step { IsAtStep progress.old (K.ingest_facts ingest.old) (K.worker_facts first.old)
+        (K.worker_facts second.old) }
+    ensures own { K.is_ingest_of lane.now ingest.new × K.is_worker_of lane.now first.new
+        × K.is_worker_of lane.now second.new }
+    ensures at_step { result ≡ true
+        → IsAtStep progress.new (K.ingest_facts ingest.new) (K.worker_facts first.new) (K.worker_facts second.new) }
 {
     let (must, who) = match step {
         Step::To(w) => return ingest_step::<K, R>(rt, lane, ingest, capture, progress, Some(w)),
@@ -183,13 +193,19 @@ fn all_steps<K: LaneKit, R: Wait>(
     capture: &Capture,
     steps: &[Step],
 ) -> bool
-    requires own { K.is_ingest_of lane.now ingest.old × K.is_worker_of lane.now first.old × K.is_worker_of lane.now second.old }
-    requires lane { ((K.lane_facts lane.now).capture ≡ capture.now) × ((K.lane_facts lane.now).bytes ≡ 64) × (1 ≤ (K.lane_facts lane.now).buffers) }
+    requires own { K.is_ingest_of lane.now ingest.old × K.is_worker_of lane.now first.old
+        × K.is_worker_of lane.now second.old }
+    requires lane { ((K.lane_facts lane.now).capture ≡ capture.now) × ((K.lane_facts lane.now).bytes ≡ 64)
+        × (1 ≤ (K.lane_facts lane.now).buffers) }
     requires shares { (K.lane_facts lane.now).shares ≡ length capture.now.entries ∷ length capture.now.entries ∷ [] }
-    requires start { HasSentTwo 0 (K.ingest_facts ingest.old) × IsAtRest 0 false (K.worker_facts first.old) × IsAtRest 1 false (K.worker_facts second.old) }
-    ensures own { K.is_ingest_of lane.now ingest.new × K.is_worker_of lane.now first.new × K.is_worker_of lane.now second.new }
-    ensures ingest { result ≡ true → ((K.ingest_facts ingest.new).finished ≡ true) × ((K.ingest_facts ingest.new).held ≡ []) }
-    ensures workers { result ≡ true → IsAtRest 0 true (K.worker_facts first.new) × IsAtRest 1 true (K.worker_facts second.new) }
+    requires start { HasSentTwo 0 (K.ingest_facts ingest.old) × IsAtRest 0 false (K.worker_facts first.old)
+        × IsAtRest 1 false (K.worker_facts second.old) }
+    ensures own { K.is_ingest_of lane.now ingest.new × K.is_worker_of lane.now first.new
+        × K.is_worker_of lane.now second.new }
+    ensures ingest { result ≡ true
+        → ((K.ingest_facts ingest.new).finished ≡ true) × ((K.ingest_facts ingest.new).held ≡ []) }
+    ensures workers { result ≡ true
+        → IsAtRest 0 true (K.worker_facts first.new) × IsAtRest 1 true (K.worker_facts second.new) }
 {
     let mut progress = Progress {
         next: 0,
@@ -214,8 +230,8 @@ fn all_steps<K: LaneKit, R: Wait>(
     progress.finished && progress.first_ended && progress.second_ended
 }
 
-/// Runs a lane with two workers, from its start to its Book, by the steps of a script. Answers whether each step found what it must
-/// and the lane came to its end; where not, the lane stays open.
+/// Runs a lane with two workers, from its start to its Book, by the steps of a script. Answers whether each step found
+/// what it must and the lane came to its end; where not, the lane stays open.
 pub fn run_script<K: LaneKit, R: Wait>(
     rt: &R,
     alloc: Global,
@@ -225,7 +241,8 @@ pub fn run_script<K: LaneKit, R: Wait>(
     steps: &[Step],
 ) -> Result<bool, NoMemory>
     requires buffers { (1 ≤ buffers) × (buffers ≤ 1024) }
-    ensures books { IfOk result (λ whole. whole ≡ true → (b : LaneBook) × (K.books kit.new ≡ K.books kit.old ++ b ∷ []) × (b.received ≡ b.sent)) }
+    ensures books { IfOk result (λ whole. whole ≡ true
+        → (b : LaneBook) × (K.books kit.new ≡ K.books kit.old ++ b ∷ []) × (b.received ≡ b.sent)) }
     ensures open_lanes { IfOk result (λ whole. whole ≡ true → K.open_lanes kit.new ≡ K.open_lanes kit.old) }
 {
     let shares = [capture.count(), capture.count()];

@@ -13,4 +13,5 @@ pub record IsWalk (places : Places) (name : List ℕ) (walk : Walk) : Type 0 whe
 
 -- these are walks of the first names
 abbrev pub AreWalks : Places → List (List ℕ) → List Walk → Type 0
-AreWalks places names walks = (b : ℕ) (none : Walk) → b < length walks → IsWalk places (slice_index_or names b []) (slice_index_or walks b none)
+AreWalks places names walks =
+    (b : ℕ) (none : Walk) → b < length walks → IsWalk places (slice_index_or names b []) (slice_index_or walks b none)

@@ -39,8 +39,8 @@ impl Model for Epochs {
 }
 
 impl Epochs {
-    /// The tables of these epochs, 1 to 16, in the order in which they begin: the first at record 0, and each later one behind the
-    /// one before it.
+    /// The tables of these epochs, 1 to 16, in the order in which they begin: the first at record 0, and each later one
+    /// behind the one before it.
     pub fn build(alloc: Global, rows: Vec<Epoch>) -> Result<Epochs, NoMemory>
         requires some { 1 ≤ length rows.items }
         requires few { length rows.items ≤ 16 }
@@ -48,7 +48,8 @@ impl Epochs {
         ensures tables { IfOk result (λ epochs. epochs ≡ epoch_tables rows.items) }
 
         // Each hash leads to a backend of the epoch.
-        ensures backends { IfOk result (λ epochs. (e hash : ℕ) (row : Epoch) → slice_get rows.items e ≡ Some row → backend_in (slice_index_or epochs.tables e []) hash < length row.names.items) }
+        ensures backends { IfOk result (λ epochs. (e hash : ℕ) (row : Epoch) → slice_get rows.items e ≡ Some row
+            → backend_in (slice_index_or epochs.tables e []) hash < length row.names.items) }
     {
         let mut tables = Vec::new(alloc);
         for k in 0..rows.len() {
@@ -58,8 +59,9 @@ impl Epochs {
         Ok(Epochs { begins, tables })
     }
 
-    /// To which backend a flow goes, by the number of its first record and the hash of its key: the number of the epoch in which
-    /// it was opened, from 0, and the number of the backend in the list of that epoch, from 0. No memory is taken.
+    /// To which backend a flow goes, by the number of its first record and the hash of its key: the number of the epoch
+    /// in which it was opened, from 0, and the number of the backend in the list of that epoch, from 0. No memory is
+    /// taken.
     pub fn backend(&self, opened: u32, hash: u64) -> (u8, u8)
         ensures epoch { result.0 ≡ epoch_of self.now.begins opened }
         ensures backend { result.1 ≡ backend_in (slice_index_or self.now.tables result.0 []) hash }

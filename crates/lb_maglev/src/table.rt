@@ -43,7 +43,8 @@ impl Maglev {
 
         // The shares add up to all places, differ by at most one, and go to backends of the list alone.
         ensures whole { IfOk result (λ table. sum (map (share_in table) (range_with_len 0 (length names.now))) ≡ 251) }
-        ensures even { IfOk result (λ table. (a b : ℕ) → a < length names.now → b < length names.now → share_in table a ≤ share_in table b + 1) }
+        ensures even { IfOk result (λ table. (a b : ℕ) → a < length names.now → b < length names.now
+            → share_in table a ≤ share_in table b + 1) }
         ensures others { IfOk result (λ table. (b : ℕ) → length names.now ≤ b → share_in table b ≡ 0) }
     {
         let mut walks = new_walks(alloc, names)?;

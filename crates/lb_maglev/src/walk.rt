@@ -26,7 +26,8 @@ pub struct Walk {
 impl Walk {
     /// The walk of the backend with this name, which has passed no place.
     pub fn new(alloc: Global, name: &Name) -> Result<Walk, NoMemory>
-        ensures { IfOk result (λ walk. (walk.offset ≡ offset_of name.now) × (walk.skip ≡ skip_of name.now) × (walk.next ≡ 0)) }
+        ensures { IfOk result (λ walk. (walk.offset ≡ offset_of name.now) × (walk.skip ≡ skip_of name.now)
+            × (walk.next ≡ 0)) }
     {
         let offset = hashes::offset_of(alloc, name)?;
         let skip = hashes::skip_of(alloc, name)?;
@@ -66,7 +67,8 @@ impl Walk {
     pub fn take_turn(&mut self, places: &mut [Option<u8>], backend: u8)
         requires long { length places.old ≡ 251 }
         requires passed { ArePassed places.old self.old.offset self.old.skip self.old.next }
-        ensures taken { places.new ≡ with_taken places.old (first_free places.old self.old.offset self.old.skip) backend }
+        ensures taken { places.new
+            ≡ with_taken places.old (first_free places.old self.old.offset self.old.skip) backend }
         ensures offset { self.new.offset ≡ self.old.offset }
         ensures skip { self.new.skip ≡ self.old.skip }
         ensures passed { ArePassed places.new self.new.offset self.new.skip self.new.next }

@@ -113,7 +113,8 @@ enum Failure {
     NoMemory,
 }
 
-/// Reads the capture and writes its datagrams. It answers how many records there were, and how many of them are datagrams.
+/// Reads the capture and writes its datagrams. It answers how many records there were, and how many of them are
+/// datagrams.
 fn mark_file<S: Store>(alloc: Global, store: &mut S) -> Result<(u32, usize), Failure> {
     let bytes = read_whole(alloc, store, 1, "in.pcap", 33_554_432).map_err(Failure::Unread)?;
     let capture = Capture::read(alloc, bytes).map_err(Failure::Refused)?;

@@ -20,7 +20,8 @@ fn call<F: Fn(&mut Ip4Mut<'_>)>(f: &F, ip4: &mut Ip4Mut<'_>)
     requires callable { F.IsAlwaysCallable f.now }
     requires keeps { (p q : MutBor Header) → F.post f.now p tt q → q.now.header.ghost_name ≡ p.now.header.ghost_name }
     ensures same_reference { ip4.new.header.ghost_name ≡ ip4.old.header.ghost_name }
-    ensures called { (p : MutBor Header) × (q : MutBor Header) × (p.now ≡ ip4.old) × F.post f.now p tt q × (ip4.new ≡ q.now) }
+    ensures called { (p : MutBor Header) × (q : MutBor Header) × (p.now ≡ ip4.old) × F.post f.now p tt q
+        × (ip4.new ≡ q.now) }
 {
     f(ip4);
 }
@@ -31,7 +32,8 @@ fn edit_header<F: Fn(&mut Ip4Mut<'_>)>(f: &F, header: &mut [u8])
     requires even { length header.old % 2 ≡ 0 }
     requires callable { F.IsAlwaysCallable f.now }
     requires keeps { (p q : MutBor Header) → F.post f.now p tt q → q.now.header.ghost_name ≡ p.now.header.ghost_name }
-    ensures { (p : MutBor Header) × (q : MutBor Header) × (p.now.header.now ≡ header.old) × F.post f.now p tt q × (q.now.header.now ≡ header.new) }
+    ensures { (p : MutBor Header) × (q : MutBor Header) × (p.now.header.now ≡ header.old) × F.post f.now p tt q
+        × (q.now.header.now ≡ header.new) }
 {
     let mut ip4 = Ip4Mut::of(header);
     call(f, &mut ip4);
@@ -43,7 +45,9 @@ fn edit_packet<F: Fn(&mut Ip4Mut<'_>)>(f: &F, packet: &mut Packet<Ip4>)
     requires even { length (header_of packet.old) % 2 ≡ 0 }
     requires callable { F.IsAlwaysCallable f.now }
     requires keeps { (p q : MutBor Header) → F.post f.now p tt q → q.now.header.ghost_name ≡ p.now.header.ghost_name }
-    ensures { (h : List ℕ) × (length h ≡ length (header_of packet.old)) × ((p : MutBor Header) × (q : MutBor Header) × (p.now.header.now ≡ header_of packet.old) × F.post f.now p tt q × (q.now.header.now ≡ h)) × (packet.new ≡ with_bytes packet.old (here_of packet.old).start h) }
+    ensures { (h : List ℕ) × (length h ≡ length (header_of packet.old))
+        × ((p : MutBor Header) × (q : MutBor Header) × (p.now.header.now ≡ header_of packet.old) × F.post f.now p tt q
+        × (q.now.header.now ≡ h)) × (packet.new ≡ with_bytes packet.old (here_of packet.old).start h) }
 {
     edit_header(f, packet.header_mut());
 }
@@ -52,7 +56,8 @@ fn edit_packet<F: Fn(&mut Ip4Mut<'_>)>(f: &F, packet: &mut Packet<Ip4>)
 fn edit_ip4<F: Fn(&mut Ip4Mut<'_>)>(f: &F, packet: Packet<Raw>) -> Packet<Raw>
     requires callable { F.IsAlwaysCallable f.now }
     requires keeps { (p q : MutBor Header) → F.post f.now p tt q → q.now.header.ghost_name ≡ p.now.header.ghost_name }
-    ensures item { Transformed (λ old new. (p : MutBor Header) × (q : MutBor Header) × (p.now.header.now ≡ old) × F.post f.now p tt q × (q.now.header.now ≡ new)) (packet_item packet) (packet_item result) }
+    ensures item { Transformed (λ old new. (p : MutBor Header) × (q : MutBor Header) × (p.now.header.now ≡ old)
+        × F.post f.now p tt q × (q.now.header.now ≡ new)) (packet_item packet) (packet_item result) }
     ensures buffer { keyed result ≡ keyed packet }
 {
     match read_ip4(packet) {
@@ -88,7 +93,10 @@ impl<F> Transform<F> {
 
 impl<F: Fn(&mut Ip4Mut<'_>)> Operator for Transform<F> {
     // The closure may be called on any header, and leaves the header where it lies.
-    ghost meaning = { never_fails (λ t flow came left. EachMade (Transforms (λ old new. (p : MutBor Header) × (q : MutBor Header) × (p.now.header.now ≡ old) × F.post t.f p tt q × (q.now.header.now ≡ new))) came.items left) (λ t. F.IsAlwaysCallable t.f × ((p q : MutBor Header) → F.post t.f p tt q → q.now.header.ghost_name ≡ p.now.header.ghost_name)) };
+    ghost meaning = { never_fails (λ t flow came left. EachMade (Transforms (λ old new. (p : MutBor Header)
+        × (q : MutBor Header) × (p.now.header.now ≡ old) × F.post t.f p tt q
+        × (q.now.header.now ≡ new))) came.items left) (λ t. F.IsAlwaysCallable t.f
+        × ((p q : MutBor Header) → F.post t.f p tt q → q.now.header.ghost_name ≡ p.now.header.ghost_name)) };
 
     fn step(&mut self, class: &Class, p: Packet<Raw>, out: &mut Outlet) -> Result<(), NoMemory> {
         let packet = edit_ip4(&self.f, p);

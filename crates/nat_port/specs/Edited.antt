@@ -1,7 +1,8 @@
 -- A transport header after an end has changed, by its protocol.
 use Rattle.std.specs.Prelude.{ℕ, List}
 use Rattle.brick_spec.specs.FlowClass.{End}
-use Rattle.brick_spec.specs.AddressTranslation.{with_tcp_source_end, with_tcp_destination_end, with_udp_source_end, with_udp_destination_end}
+use Rattle.brick_spec.specs.AddressTranslation.{with_tcp_source_end, with_tcp_destination_end, with_udp_source_end}
+use Rattle.brick_spec.specs.AddressTranslation.{with_udp_destination_end}
 use Rattle.tcp_udp.specs.declared.places.Transport.{Transport}
 use Rattle.tcp_udp.specs.declared.places.Transport.TheVariants.{Tcp, Udp}
 

@@ -13,12 +13,15 @@ use Rattle.flow_key.specs.declared.plan.NatPlan.{NatPlan}
 
 -- the item that is made of a packet of a class, or why it is dropped
 abbrev pub translated_packet : NatPlan → Class → PacketModel → Result Item Reason
-translated_packet plan class p = translated (plan_view plan) (flow_of class) (record { dir = dir_view class.dir; item = packet_item p })
+translated_packet plan class p =
+    translated (plan_view plan) (flow_of class) (record { dir = dir_view class.dir; item = packet_item p })
 
 -- the frame that is made of one, of a flow with this rank, or of one without
 abbrev pub frame_by_rank : flows.NatPlan → Option ℕ → Ends → Direction → List ℕ → Result (List ℕ) Reason
 frame_by_rank plan None first dir frame = Ok frame
-frame_by_rank plan (Some rank) first dir frame = if nat_le plan.ports rank then Err NatFull else Ok (translated_frame plan first rank dir frame)
+frame_by_rank plan (Some rank) first dir frame =
+    if nat_le plan.ports rank then Err NatFull else Ok (translated_frame plan first rank dir frame)
 
 abbrev pub translated_bytes : NatPlan → Class → List ℕ → Result (List ℕ) Reason
-translated_bytes plan class frame = frame_by_rank (plan_view plan) (flow_of class).rank (flow_of class).first (dir_view class.dir) frame
+translated_bytes plan class frame =
+    frame_by_rank (plan_view plan) (flow_of class).rank (flow_of class).first (dir_view class.dir) frame

@@ -14,7 +14,8 @@ use tcp_udp::{
     set_udp_destination_port, set_udp_source_port, tcp_address_changed, udp_address_changed,
 };
 
-/// Edits a transport header after the source of its datagram has changed from `old`: for the address, and then for the port.
+/// Edits a transport header after the source of its datagram has changed from `old`: for the address, and then for the
+/// port.
 fn set_transport_source(header: &mut [u8], transport: Transport, old: u32, address: u32, port: u16)
     requires { least_header transport ≤ length header.old }
     ensures { header.new ≡ source_edited transport old (record { address = address; port = port }) header.old }
@@ -31,7 +32,8 @@ fn set_transport_source(header: &mut [u8], transport: Transport, old: u32, addre
     }
 }
 
-/// Edits a transport header after the destination of its datagram has changed from `old`: for the address, and then for the port.
+/// Edits a transport header after the destination of its datagram has changed from `old`: for the address, and then for
+/// the port.
 fn set_transport_destination(
     header: &mut [u8],
     transport: Transport,
@@ -73,7 +75,8 @@ fn replace_destination(frame: &mut [u8], start: usize, end: usize, address: u32)
     requires long { start + 20 ≤ end }
     requires even { (end - start) % 2 ≡ 0 }
     requires within { end ≤ length frame.old }
-    ensures edit { frame.new ≡ with_part start end (with_destination (slice_range frame.old start end) address) frame.old }
+    ensures edit { frame.new
+        ≡ with_part start end (with_destination (slice_range frame.old start end) address) frame.old }
     ensures old { result ≡ destination_of (slice_range frame.old start end) }
 {
     let header = &mut frame[start..end];
@@ -86,7 +89,11 @@ fn replace_destination(frame: &mut [u8], start: usize, end: usize, address: u32)
 fn tell_source(frame: &mut [u8], places: Places, old: u32, address: u32, port: u16)
     requires long { places.header + least_header places.transport ≤ places.payload }
     requires within { places.payload ≤ length frame.old }
-    ensures { frame.new ≡ with_part places.header places.payload (source_edited places.transport old (record { address = address; port = port }) (slice_range frame.old places.header places.payload)) frame.old }
+    ensures { frame.new
+        ≡ with_part places.header places.payload (source_edited places.transport old (record {
+          address = address;
+          port = port;
+        }) (slice_range frame.old places.header places.payload)) frame.old }
 {
     let header = &mut frame[places.header..places.payload];
     set_transport_source(header, places.transport, old, address, port);
@@ -96,7 +103,11 @@ fn tell_source(frame: &mut [u8], places: Places, old: u32, address: u32, port: u
 fn tell_destination(frame: &mut [u8], places: Places, old: u32, address: u32, port: u16)
     requires long { places.header + least_header places.transport ≤ places.payload }
     requires within { places.payload ≤ length frame.old }
-    ensures { frame.new ≡ with_part places.header places.payload (destination_edited places.transport old (record { address = address; port = port }) (slice_range frame.old places.header places.payload)) frame.old }
+    ensures { frame.new
+        ≡ with_part places.header places.payload (destination_edited places.transport old (record {
+          address = address;
+          port = port;
+        }) (slice_range frame.old places.header places.payload)) frame.old }
 {
     let header = &mut frame[places.header..places.payload];
     set_transport_destination(header, places.transport, old, address, port);

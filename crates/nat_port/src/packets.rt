@@ -27,7 +27,8 @@ fn translate_frame(frame: &mut [u8], plan: &NatPlan, first: Ends, rank: u32, dir
 /// Translates the frame of a packet of a class, where it lies, as `translate` does. The IPv4 layer stays where it is.
 pub fn translate_bytes(plan: &NatPlan, class: &Class, frame: &mut [u8]) -> Result<(), Reason>
     ensures ok { IfOk result (λ _. translated_bytes plan.now class.now frame.old ≡ Ok frame.new) }
-    ensures err { IfErr result (λ e. (frame.new ≡ frame.old) × (translated_bytes plan.now class.now frame.old ≡ Err (reason_view e))) }
+    ensures err { IfErr result (λ e. (frame.new ≡ frame.old)
+        × (translated_bytes plan.now class.now frame.old ≡ Err (reason_view e))) }
 {
     let Some(rank) = class.rank else {
         return Ok(());
@@ -39,10 +40,10 @@ pub fn translate_bytes(plan: &NatPlan, class: &Class, frame: &mut [u8]) -> Resul
     Ok(())
 }
 
-/// Translates a packet of a class, in its own buffer. What goes forward gets as its source the address outside and the port of its
-/// flow's rank; what comes back gets as its destination the source end of the flow's first record. A packet without a rank or
-/// without ports stays as it is. `Err` is only `NatFull`, exactly where the rank is there and is at least the number of ports; the
-/// packet is then unchanged.
+/// Translates a packet of a class, in its own buffer. What goes forward gets as its source the address outside and the
+/// port of its flow's rank; what comes back gets as its destination the source end of the flow's first record. A packet
+/// without a rank or without ports stays as it is. `Err` is only `NatFull`, exactly where the rank is there and is at
+/// least the number of ports; the packet is then unchanged.
 pub fn translate(
     plan: &NatPlan,
     class: &Class,

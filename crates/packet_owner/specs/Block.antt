@@ -23,4 +23,5 @@ HasMemory b = (vec_len b.bytes ≤ b.room) × (b.room ≤ vec_capacity b.bytes) 
 -- its frame is in its memory, and its layers, of which there are so many, stand in the frame
 abbrev pub IsSound : ℕ → Block → Type 0
 IsSound depth b =
-    HasMemory b × (b.len ≤ vec_len b.bytes) × (length b.places.items ≡ depth) × AreNested (map place_view (reverse b.places.items)) b.len
+    HasMemory b × (b.len ≤ vec_len b.bytes) × (length b.places.items ≡ depth)
+    × AreNested (map place_view (reverse b.places.items)) b.len

@@ -1,8 +1,10 @@
-ghost use Rattle.std.specs.Prelude.{ℕ, ◌≡◌, ◌≤◌, ◌+◌, ◌++◌, [], ◌∷◌, length, take, drop, replicate, Some, None, IfOk, IfErr, OnErr, vec_len, vec_capacity};
+ghost use Rattle.std.specs.Prelude.{ℕ, ◌≡◌, ◌≤◌, ◌+◌, ◌++◌, [], ◌∷◌, length, take, drop, replicate, Some, None, IfOk};
+ghost use Rattle.std.specs.Prelude.{IfErr, OnErr, vec_len, vec_capacity};
 ghost use Rattle.std.specs.Borrow.{sem};
 ghost use Rattle.brick_spec.specs.Item.{item_of};
 ghost use Rattle.pcap_io.specs.View.{entry_view, item_view, lent_view};
-ghost use Rattle.packet_owner.specs.Packet.{PacketModel, AreNested, IsWithin, place_view, here_of, header_of, payload_of, packet_item, parsed, deparsed};
+ghost use Rattle.packet_owner.specs.Packet.{PacketModel, AreNested, IsWithin, place_view, here_of, header_of};
+ghost use Rattle.packet_owner.specs.Packet.{payload_of, packet_item, parsed, deparsed};
 
 use crate::Buffer;
 use crate::buffer::Block;
@@ -14,8 +16,8 @@ use std::alloc::Global;
 use std::fmt;
 use std::marker::{Model, PhantomData};
 
-/// A frame in a buffer of its own, with its key, its times and its length on the link, read up to the layer `P`. The bytes of
-/// the buffer behind the frame mean nothing.
+/// A frame in a buffer of its own, with its key, its times and its length on the link, read up to the layer `P`. The
+/// bytes of the buffer behind the frame mean nothing.
 #[derive(Drop)]
 pub struct Packet<P: Proto> {
     block: Box<Block>,
@@ -100,8 +102,8 @@ impl Packet<Raw> {
         }
     }
 
-    /// A packet of `len` zero bytes in the buffer, whose memory the packet keeps, with this key and these times. On the link it is
-    /// as long.
+    /// A packet of `len` zero bytes in the buffer, whose memory the packet keeps, with this key and these times. On the
+    /// link it is as long.
     pub fn blank(
         buffer: Buffer,
         a: u64,
@@ -111,7 +113,8 @@ impl Packet<Raw> {
         len: u32,
     ) -> Packet<Raw>
         requires { len ≤ buffer.room }
-        ensures item { packet_item result ≡ record { a = a; j = j; seconds = seconds; fraction = fraction; original = len; frame = replicate len 0 } }
+        ensures item { packet_item result
+            ≡ record { a = a; j = j; seconds = seconds; fraction = fraction; original = len; frame = replicate len 0 } }
         ensures slot { result.slot ≡ buffer.slot }
         ensures room { result.room ≡ buffer.room }
         ensures layers { result.layers ≡ [] }
@@ -184,7 +187,8 @@ impl<P: Proto> Packet<P> {
         &self.block.bytes[here.start as usize..here.middle as usize]
     }
 
-    /// The header of its layer, to be written. What is written stands in the frame, and nothing else changes: no layer moves.
+    /// The header of its layer, to be written. What is written stands in the frame, and nothing else changes: no layer
+    /// moves.
     pub fn header_mut(&mut self) -> &mut [u8]
         ensures* writes_back { sem 𝓛 (LendsHeader P.row P.Prev.row P.Proto self.entry result) }
         ensures value { result.now ≡ header_of self.old }
@@ -238,7 +242,8 @@ impl<P: Proto> Packet<P> {
     pub fn parse<Q: Proto<Prev = P>>(self) -> Result<Packet<Q>, Packet<P>>
         requires { Q.DEPTH ≡ P.DEPTH + 1 }
         ensures ok { IfOk result (λ q. parsed Q.length_of Q.extent_of self ≡ Some q) }
-        ensures given { IfOk result (λ q. Q.length_of (header_of self) (payload_of self) ≡ Some (length (header_of q))) }
+        ensures given { IfOk result (λ q. Q.length_of (header_of self) (payload_of self)
+            ≡ Some (length (header_of q))) }
         ensures least { IfOk result (λ q. Q.LEAST ≤ length (header_of q)) }
         ensures layers { length self.layers ≡ P.DEPTH }
         ensures err { IfErr result (λ p. p ≡ self) }

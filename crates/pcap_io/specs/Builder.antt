@@ -10,7 +10,14 @@ pub record ItemsBuilderModel : Type 0 where
   pub items : List Item
 
 abbrev pub item_of_head : List ℕ → Head → Item
-item_of_head bytes h = record { a = h.a; j = h.j; seconds = h.seconds; fraction = h.fraction; original = h.original; frame = take h.len (drop h.start bytes) }
+item_of_head bytes h = record {
+  a = h.a;
+  j = h.j;
+  seconds = h.seconds;
+  fraction = h.fraction;
+  original = h.original;
+  frame = take h.len (drop h.start bytes);
+}
 
 abbrev pub items_of_heads : List ℕ → List Head → List Item
 items_of_heads bytes heads = map (item_of_head bytes) heads

@@ -7,7 +7,8 @@ use Rattle.brick_spec.specs.Item as items
 use Rattle.pcap_io.specs.Reading as reading
 use Rattle.pcap_io.specs.declared.entry.Entry.{Entry}
 use Rattle.pcap_io.specs.declared.fault.CaptureFault.{CaptureFault}
-use Rattle.pcap_io.specs.declared.fault.CaptureFault.TheVariants.{ShortHeader, Magic, Version, Link, CutRecord, LongRecord, NoMemory}
+use Rattle.pcap_io.specs.declared.fault.CaptureFault.TheVariants.{ShortHeader, Magic, Version, Link, CutRecord}
+use Rattle.pcap_io.specs.declared.fault.CaptureFault.TheVariants.{LongRecord, NoMemory}
 use Rattle.pcap_io.specs.declared.item.Item.{Item}
 use Rattle.pcap_io.specs.declared.lent.LentItem.{LentItem}
 use Rattle.pcap_io.specs.declared.number.Order.{Order}
@@ -20,11 +21,25 @@ abbrev pub entry_view : Entry → spec.Entry
 entry_view e = record { seconds = e.seconds; fraction = e.fraction; original = e.original; frame = e.frame.now }
 
 abbrev pub item_view : Item → items.Item
-item_view i = record { a = i.a; j = i.j; seconds = i.seconds; fraction = i.fraction; original = i.original; frame = i.frame }
+item_view i = record {
+  a = i.a;
+  j = i.j;
+  seconds = i.seconds;
+  fraction = i.fraction;
+  original = i.original;
+  frame = i.frame;
+}
 
 -- an item that owns what a lent one has
 abbrev pub own_item : LentItem → Item
-own_item l = record { a = l.a; j = l.j; seconds = l.seconds; fraction = l.fraction; original = l.original; frame = l.frame.now }
+own_item l = record {
+  a = l.a;
+  j = l.j;
+  seconds = l.seconds;
+  fraction = l.fraction;
+  original = l.original;
+  frame = l.frame.now;
+}
 
 abbrev pub lent_view : LentItem → items.Item
 lent_view l = item_view (own_item l)
@@ -59,8 +74,10 @@ StandsInRecords o records (ShortHeader len) = ⊥
 StandsInRecords o records (Magic word) = ⊥
 StandsInRecords o records (Version major minor) = ⊥
 StandsInRecords o records (Link word) = ⊥
-StandsInRecords o records (CutRecord number at) = (first : List spec.Entry) × (rest : List ℕ) × reading.IsAfter o first rest records
+StandsInRecords o records (CutRecord number at) =
+    (first : List spec.Entry) × (rest : List ℕ) × reading.IsAfter o first rest records
     × faults.IsCut o rest × (number ≡ length first) × (at + length rest ≡ 24 + length records)
-StandsInRecords o records (LongRecord number len) = (first : List spec.Entry) × (rest : List ℕ) × reading.IsAfter o first rest records
+StandsInRecords o records (LongRecord number len) =
+    (first : List spec.Entry) × (rest : List ℕ) × reading.IsAfter o first rest records
     × reading.IsLong o rest × (len ≡ faults.captured_length o rest) × (number ≡ length first)
 StandsInRecords o records NoMemory = Unit {0}

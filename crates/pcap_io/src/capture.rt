@@ -33,7 +33,8 @@ fn record_fault(number: usize, at: usize, stuck: Stuck) -> CaptureFault
 /// The places of the records behind a file header, where there are whole records and nothing more.
 fn places_of(alloc: Global, order: Order, records: &[u8]) -> Result<Vec<usize>, CaptureFault>
     requires { length records.now ≤ 33554432 }
-    ensures text { IfOk result (λ places. records.now ≡ flat_map (record_text (order_view order)) (entries_at (order_view order) records.now places.items)) }
+    ensures text { IfOk result (λ places. records.now
+        ≡ flat_map (record_text (order_view order)) (entries_at (order_view order) records.now places.items)) }
     ensures fit { IfOk result (λ places. AllByRecursion Fits (entries_at (order_view order) records.now places.items)) }
     ensures places { IfOk result (λ places. ArePlaces (order_view order) records.now places.items) }
     ensures fault { IfErr result (StandsInRecords (order_view order) records.now) }
@@ -71,9 +72,13 @@ impl Model for Capture {
 
     ghost Value = { Contents };
 
-    ghost view = { λ c. record { nano = c.nano; entries = entries_at (order_view c.order) (drop 24 c.bytes.items) c.places.items } };
+    ghost view = { λ c. record {
+      nano = c.nano;
+      entries = entries_at (order_view c.order) (drop 24 c.bytes.items) c.places.items;
+    } };
 
-    ghost invariant = { λ c. (24 ≤ length c.bytes.items) × ArePlaces (order_view c.order) (drop 24 c.bytes.items) c.places.items };
+    ghost invariant = { λ c. (24 ≤ length c.bytes.items)
+        × ArePlaces (order_view c.order) (drop 24 c.bytes.items) c.places.items };
 }
 
 /// The number of records, the resolution and the byte order; not the frames.
@@ -88,8 +93,8 @@ impl fmt::Debug for Capture {
 }
 
 impl Capture {
-    /// Reads a whole capture, in either byte order, with microseconds or nanoseconds. On a refusal the bytes are given up, and the
-    /// fault is the one that stands in them. No frame is copied.
+    /// Reads a whole capture, in either byte order, with microseconds or nanoseconds. On a refusal the bytes are given
+    /// up, and the fault is the one that stands in them. No frame is copied.
     pub fn read(alloc: Global, bytes: Vec<u8>) -> Result<Capture, CaptureFault>
         requires { vec_len bytes ≤ 33554432 }
         ensures whole { IfOk result (IsWhole bytes.items) }

@@ -4,7 +4,8 @@ ghost use Rattle.pcap_io.specs.declared.fault.CaptureFault.TheVariants.{NoMemory
 use std::alloc::AllocFailed;
 use thiserror::Error;
 
-/// Why bytes are not read as a capture: the first check that fails, in the order of the variants and then of the records.
+/// Why bytes are not read as a capture: the first check that fails, in the order of the variants and then of the
+/// records.
 #[derive(Clone, Copy, Debug, PartialEq, Eq, Error)]
 pub enum CaptureFault {
     /// There are fewer than 24 bytes: how many.

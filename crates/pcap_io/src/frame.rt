@@ -19,8 +19,8 @@ enum Bytes {
     },
 }
 
-/// The bytes of a frame, in memory of its own or in memory that frames share. Shared memory is given back with the last of
-/// its frames.
+/// The bytes of a frame, in memory of its own or in memory that frames share. Shared memory is given back with the last
+/// of its frames.
 #[derive(Drop)]
 pub struct Frame {
     bytes: Bytes,

@@ -37,7 +37,8 @@ pub fn magic_number(nano: bool) -> u32
 /// Whether the fractions are nanoseconds, where the first four bytes are a magic number in this byte order.
 fn resolution(order: Order, bytes: &[u8]) -> Option<bool>
     requires { 24 ≤ length bytes.now }
-    ensures { MatchOption result ((nano : Bool) → ¬ (HasMagic (order_view order) nano bytes.now)) (λ nano. HasMagic (order_view order) nano bytes.now) }
+    ensures { MatchOption result ((nano : Bool)
+        → ¬ (HasMagic (order_view order) nano bytes.now)) (λ nano. HasMagic (order_view order) nano bytes.now) }
 {
     let word = four_at(order, bytes, 0);
     if word == MICROSECONDS {
@@ -52,7 +53,8 @@ fn resolution(order: Order, bytes: &[u8]) -> Option<bool>
 /// The byte order and the resolution that the magic number tells.
 fn form_of(bytes: &[u8]) -> Option<Form>
     requires { 24 ≤ length bytes.now }
-    ensures { MatchOption result ((o : spec.Order) (nano : Bool) → ¬ (HasMagic o nano bytes.now)) (λ form. HasMagic (order_view form.order) form.nano bytes.now) }
+    ensures { MatchOption result ((o : spec.Order) (nano : Bool)
+        → ¬ (HasMagic o nano bytes.now)) (λ form. HasMagic (order_view form.order) form.nano bytes.now) }
 {
     if let Some(nano) = resolution(Order::Little, bytes) {
         return Some(Form {

@@ -1,4 +1,5 @@
-ghost use Rattle.pcap_io.specs.TextLaws.{EachIsWholeOrFaulty, NoneIsWholeAndFaulty, FaultIsUnique, CaptureIsUnique, WrittenIsCapture};
+ghost use Rattle.pcap_io.specs.TextLaws.{EachIsWholeOrFaulty, NoneIsWholeAndFaulty, FaultIsUnique, CaptureIsUnique};
+ghost use Rattle.pcap_io.specs.TextLaws.{WrittenIsCapture};
 ghost use Rattle.pcap_io.specs.WorkedCapture.{ForeignIsWhole};
 
 /// A worked example: a big-endian capture with nanoseconds is whole by the definition.

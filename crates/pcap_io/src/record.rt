@@ -25,7 +25,8 @@ pub enum Stuck {
 #[tactic(auto, using(crate::proofs::Places::captured_at))]
 pub fn record_size(order: Order, bytes: &[u8]) -> Result<usize, Stuck>
     requires { 0 < length bytes.now }
-    ensures whole { IfOk result (λ n. IsRecord (order_view order) bytes.now × (n ≡ 16 + captured_length (order_view order) bytes.now)) }
+    ensures whole { IfOk result (λ n. IsRecord (order_view order) bytes.now
+        × (n ≡ 16 + captured_length (order_view order) bytes.now)) }
     ensures stuck { IfErr result (IsStuckBy (order_view order) bytes.now) }
 {
     if bytes.len() < HEAD {

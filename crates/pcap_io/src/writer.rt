@@ -14,7 +14,8 @@ use std::alloc::Global;
 use std::fmt;
 use std::marker::Model;
 
-/// The text of a capture, as it grows: little-endian, version 2.4, zone 0, accuracy 0, snapshot length 262,144, link type 1.
+/// The text of a capture, as it grows: little-endian, version 2.4, zone 0, accuracy 0, snapshot length 262,144, link
+/// type 1.
 #[derive(Drop)]
 pub struct Writer {
     bytes: Vec<u8>,
@@ -59,7 +60,9 @@ fn low_length(bytes: &[u8]) -> u32
 /// The four numbers of the record of an item whose frame is lent, as `record_head`.
 #[tactic(auto, unfolding(brick_spec::specs::Bytes::four_bytes))]
 fn lent_head(item: LentItem<'_>) -> [u8; 16]
-    ensures { result ≡ four_bytes Little item.entry.seconds ++ (four_bytes Little item.entry.fraction ++ (four_bytes Little (length item.entry.frame.now) ++ four_bytes Little item.entry.original)) }
+    ensures { result ≡ four_bytes Little item.entry.seconds
+        ++ (four_bytes Little item.entry.fraction
+        ++ (four_bytes Little (length item.entry.frame.now) ++ four_bytes Little item.entry.original)) }
 {
     let captured = low_length(item.frame);
     let numbers = [item.seconds, item.fraction, captured, item.original];
@@ -68,10 +71,12 @@ fn lent_head(item: LentItem<'_>) -> [u8; 16]
     head
 }
 
-/// The four numbers of an item's record, which stand in front of its frame, little-endian. Of the captured length the lowest 32 bits are
-/// told, which is all of it up to 4,294,967,295 bytes.
+/// The four numbers of an item's record, which stand in front of its frame, little-endian. Of the captured length the
+/// lowest 32 bits are told, which is all of it up to 4,294,967,295 bytes.
 pub fn record_head(item: &Item) -> [u8; 16]
-    ensures { result ≡ four_bytes Little item.now.seconds ++ (four_bytes Little item.now.fraction ++ (four_bytes Little (length item.now.frame) ++ four_bytes Little item.now.original)) }
+    ensures { result ≡ four_bytes Little item.now.seconds
+        ++ (four_bytes Little item.now.fraction
+        ++ (four_bytes Little (length item.now.frame) ++ four_bytes Little item.now.original)) }
 {
     lent_head(item.lend())
 }
@@ -89,7 +94,8 @@ impl Writer {
     pub fn append(&mut self, item: &Item) -> Result<(), NoMemory>
         requires { length item.now.frame ≤ 262144 }
         ensures ok { OnOk result (self.new ≡ self.old ++ record_text Little (entry_of (item_view item.now))) }
-        ensures text { OnOk result ((nano : Bool) (items : List spec.Item) → self.old ≡ items_text nano items → self.new ≡ items_text nano (items ++ item_view item.now ∷ [])) }
+        ensures text { OnOk result ((nano : Bool) (items : List spec.Item) → self.old ≡ items_text nano items
+            → self.new ≡ items_text nano (items ++ item_view item.now ∷ [])) }
         ensures err { OnErr result (self.new ≡ self.old) }
     {
         self.append_lent(item.lend())
@@ -99,7 +105,8 @@ impl Writer {
     pub fn append_lent(&mut self, item: LentItem<'_>) -> Result<(), NoMemory>
         requires { length item.frame.now ≤ 262144 }
         ensures ok { OnOk result (self.new ≡ self.old ++ record_text Little (entry_of (lent_view item.entry))) }
-        ensures text { OnOk result ((nano : Bool) (items : List spec.Item) → self.old ≡ items_text nano items → self.new ≡ items_text nano (items ++ lent_view item.entry ∷ [])) }
+        ensures text { OnOk result ((nano : Bool) (items : List spec.Item) → self.old ≡ items_text nano items
+            → self.new ≡ items_text nano (items ++ lent_view item.entry ∷ [])) }
         ensures err { OnErr result (self.new ≡ self.old) }
     {
         let head = lent_head(item);

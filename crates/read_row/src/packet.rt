@@ -13,8 +13,8 @@ use eth_ip::Ip4;
 use packet_owner::Packet;
 use tcp_udp::Tuple;
 
-/// A packet whose Ethernet and IPv4 headers were read, and its five-tuple, where one was asked for. Who changes the addresses, the
-/// protocol or the ports of the packet forgets the five-tuple.
+/// A packet whose Ethernet and IPv4 headers were read, and its five-tuple, where one was asked for. Who changes the
+/// addresses, the protocol or the ports of the packet forgets the five-tuple.
 #[derive(Debug, Drop)]
 pub struct ReadPacket {
     /// The packet.

@@ -17,7 +17,8 @@ fn read_in_turn<S: TreatRead>(
 ) -> Result<(), Option<Reason>>
     requires { IsRead packet.old.packet }
     ensures read { IsRead packet.new.packet }
-    ensures treats { RowTreats S.kind stages.old.items stages.new.items class.now packet.old.packet (treated result packet.new.packet) }
+    ensures treats { RowTreats S.kind stages.old.items stages.new.items class.now packet.old.packet
+        (treated result packet.new.packet) }
 {
     for at in 0..stages.len() {
         match stages[at].treat_read(class, packet) {
@@ -99,8 +100,8 @@ impl<S> ReadRow<S> {
 }
 
 impl<S: TreatRead> ReadRow<S> {
-    /// Lets the stages treat a packet, in its own buffer. It goes on, or is dropped. Where memory runs out it is lost, and the row has
-    /// failed: it loses each packet from then on.
+    /// Lets the stages treat a packet, in its own buffer. It goes on, or is dropped. Where memory runs out it is lost,
+    /// and the row has failed: it loses each packet from then on.
     pub fn treat(&mut self, class: &Class, packet: Packet<Raw>) -> Result<Packet<Raw>, Dropped>
         ensures treats { RowTreats S.kind self.old.stages.items self.new.stages.items class.now packet result }
         ensures lost { self.new.failed ≡ was_lost result }

@@ -12,8 +12,8 @@ use packet_owner::Packet;
 pub trait TreatRead {
     ghost kind: { Kind Self };
 
-    /// Treats a packet whose Ethernet and IPv4 headers were read. It goes on, or is to be dropped: with no reason where memory ran
-    /// out. Then the stage has failed, and each packet is lost from then on.
+    /// Treats a packet whose Ethernet and IPv4 headers were read. It goes on, or is to be dropped: with no reason where
+    /// memory ran out. Then the stage has failed, and each packet is lost from then on.
     fn treat_read(&mut self, class: &Class, packet: &mut ReadPacket) -> Result<(), Option<Reason>>
         requires { IsRead packet.old.packet }
         ensures read { IsRead packet.new.packet }

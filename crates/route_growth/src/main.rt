@@ -1,7 +1,8 @@
 //! Tables of routes of more and more rows, and addresses that are looked up in them.
 //!
-//! `route_growth ROWS ADDRESSES` builds a table of rows from a fixed sequence, looks so many addresses of another up, and prints how many had a
-//! row. It is there so that its instructions can be counted: those of a table grow as its rows do, and those of an address do not.
+//! `route_growth ROWS ADDRESSES` builds a table of rows from a fixed sequence, looks so many addresses of another up,
+//! and prints how many had a row. It is there so that its instructions can be counted: those of a table grow as its
+//! rows do, and those of an address do not.
 #![tactic(auto)]
 
 use brick_base::NoMemory;
@@ -45,7 +46,8 @@ fn rows_of(alloc: Global, count: u32) -> Result<Vec<Route>, NoMemory> {
     Ok(rows)
 }
 
-/// How many of so many addresses have a row. Each lies in the last 256 addresses round one that a row of some number was made from.
+/// How many of so many addresses have a row. Each lies in the last 256 addresses round one that a row of some number
+/// was made from.
 fn found_in(routes: &Routes, addresses: u32) -> u32 {
     let mut state = 2;
     let mut found = 0u32;

@@ -10,16 +10,23 @@ use Rattle.run_report.specs.declared.report.Tally.{Tally}
 use Rattle.run_report.specs.declared.report.TenantEnd.{TenantEnd}
 use Rattle.run_report.specs.declared.report.TenantEnd.TheVariants.{Done, TooLong, BadCapture, ReadFault, WriteFault}
 use Rattle.run_report.specs.declared.refusal.Refusal.{Refusal}
-use Rattle.run_report.specs.declared.refusal.Refusal.TheVariants.{ShortHeader, Magic, Version, Link, CutRecord, LongRecord}
+use Rattle.run_report.specs.declared.refusal.Refusal.TheVariants.{ShortHeader, Magic, Version, Link, CutRecord}
+use Rattle.run_report.specs.declared.refusal.Refusal.TheVariants.{LongRecord}
 use Rattle.run_report.specs.declared.report.Line.{Line}
 use Rattle.run_report.specs.declared.report.Outcome.{Outcome}
-use Rattle.run_report.specs.declared.report.Outcome.TheVariants.{Usage, ChainsRefused, StoreFault, NoMemory, Checked, Reported}
+use Rattle.run_report.specs.declared.report.Outcome.TheVariants.{Usage, ChainsRefused, StoreFault, NoMemory, Checked}
+use Rattle.run_report.specs.declared.report.Outcome.TheVariants.{Reported}
 
 abbrev pub output_view : Output → spec_tenant.Output
 output_view o = record { name = o.name; items = o.items }
 
 abbrev pub tally_view : Tally → spec_tenant.Tally
-tally_view t = record { accepted = t.accepted; refused = t.refused; drops = t.drops; outputs = map output_view t.outputs.items }
+tally_view t = record {
+  accepted = t.accepted;
+  refused = t.refused;
+  drops = t.drops;
+  outputs = map output_view t.outputs.items;
+}
 
 abbrev pub refusal_view : Refusal → spec_fault.CaptureFault
 refusal_view (ShortHeader len) = spec_fault.ShortHeader len

@@ -22,7 +22,8 @@ pub enum Refusal {
 
 /// The fault that a reader of captures answers, where it is not want of memory.
 pub fn refusal_of(fault: CaptureFault) -> Result<Refusal, NoMemory>
-    ensures means { IfOk result (λ refusal. (bytes : List ℕ) → StandsIn bytes fault → Stands bytes (refusal_view refusal)) }
+    ensures means { IfOk result (λ refusal. (bytes : List ℕ) → StandsIn bytes fault
+        → Stands bytes (refusal_view refusal)) }
     ensures memory { OnErr result (fault ≡ CaptureFault.NoMemory) }
 {
     match fault {

@@ -1,9 +1,11 @@
 //! How a run ends, and the text that tells it.
-ghost use Rattle.std.specs.Prelude.{◌≡◌, ◌++◌, ℕ, List, IfOk, OnOk, flat_map, map, codes, decimal, string_bytes, length, is_some};
+ghost use Rattle.std.specs.Prelude.{◌≡◌, ◌++◌, ℕ, List, IfOk, OnOk, flat_map, map, codes, decimal, string_bytes};
+ghost use Rattle.std.specs.Prelude.{length, is_some};
 ghost use Rattle.std.specs.List.{list_all};
 ghost use Rattle.run_spec.specs.Report as spec;
 ghost use Rattle.chain_text.specs.Gives.{seen};
-ghost use Rattle.run_report.specs.View.{refusal_view, tally_view, output_view, end_view, line_view, refused_view, outcome_view};
+ghost use Rattle.run_report.specs.View.{refusal_view, tally_view, output_view, end_view, line_view, refused_view};
+ghost use Rattle.run_report.specs.View.{outcome_view};
 
 use crate::refusal::{Refusal, refusal_text};
 use brick_base::{Name, NoMemory};
@@ -87,7 +89,9 @@ fn three_counts(
     labels: (&str, &str, &str),
     counts: (u32, u32, u32),
 ) -> Result<String, NoMemory>
-    ensures { IfOk result (λ text. string_bytes text ≡ labels.entry.0.now ++ (decimal counts.0 ++ (labels.entry.1.now ++ (decimal counts.1 ++ (labels.entry.2.now ++ decimal counts.2))))) }
+    ensures { IfOk result (λ text. string_bytes text
+        ≡ labels.entry.0.now ++ (decimal counts.0
+        ++ (labels.entry.1.now ++ (decimal counts.1 ++ (labels.entry.2.now ++ decimal counts.2))))) }
 {
     let (first, second, third) = labels;
     let (a, b, c) = counts;
@@ -121,7 +125,8 @@ fn drops_text(alloc: Global, drops: &[u32; 9]) -> Result<String, NoMemory>
 
 /// Puts the output's name and its number of items behind the text.
 fn push_output(alloc: Global, text: &mut String, output: &Output) -> Result<(), NoMemory>
-    ensures { OnOk result (string_bytes text.new ≡ string_bytes text.old ++ spec.output_count_text (output_view output.now)) }
+    ensures { OnOk result (string_bytes text.new
+        ≡ string_bytes text.old ++ spec.output_count_text (output_view output.now)) }
 {
     let name = output.name.as_str();
     let items = output.items;
@@ -132,7 +137,8 @@ fn push_output(alloc: Global, text: &mut String, output: &Output) -> Result<(), 
 
 /// Puts the outputs behind the text.
 fn push_outputs(alloc: Global, text: &mut String, outputs: &[Output]) -> Result<(), NoMemory>
-    ensures { OnOk result (string_bytes text.new ≡ string_bytes text.old ++ flat_map spec.output_count_text (map output_view outputs.now)) }
+    ensures { OnOk result (string_bytes text.new
+        ≡ string_bytes text.old ++ flat_map spec.output_count_text (map output_view outputs.now)) }
 {
     for output in outputs {
         push_output(alloc, text, output)?;
@@ -150,7 +156,8 @@ fn push_word(text: &mut String, word: &str) -> Result<(), NoMemory>
 
 /// Puts the fault of a capture behind the text.
 fn push_bad_capture(alloc: Global, text: &mut String, refusal: Refusal) -> Result<(), NoMemory>
-    ensures { OnOk result (string_bytes text.new ≡ string_bytes text.old ++ (codes " bad-capture" ++ spec.fault_text (refusal_view refusal))) }
+    ensures { OnOk result (string_bytes text.new
+        ≡ string_bytes text.old ++ (codes " bad-capture" ++ spec.fault_text (refusal_view refusal))) }
 {
     let fault = refusal_text(alloc, refusal)?;
     let words = format!(in alloc; " bad-capture{fault}")?;

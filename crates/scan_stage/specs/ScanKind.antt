@@ -28,4 +28,8 @@ abbrev pub IsSameStage : ScanStage → ScanStage → Type 0
 IsSameStage old new = (new.text ≡ old.text) × (new.reach ≡ old.reach) × (new.failed ≡ old.failed)
 
 abbrev pub scan_kind : Kind ScanStage
-scan_kind = record { stage = λ s flow. scan_stage s.text.items s.reach; fits = λ s flow items. ScanFits s flow.number items; failed = λ s. s.failed }
+scan_kind = record {
+  stage = λ s flow. scan_stage s.text.items s.reach;
+  fits = λ s flow items. ScanFits s flow.number items;
+  failed = λ s. s.failed;
+}

@@ -34,12 +34,15 @@ impl FlowScans {
         Ok(FlowScans { forward, reversed })
     }
 
-    /// Takes a segment in, and answers whether one of the two streams contains the text. Without memory nothing changes.
+    /// Takes a segment in, and answers whether one of the two streams contains the text. Without memory nothing
+    /// changes.
     pub(crate) fn take(&mut self, dir: Dir, segment: Segment<'_>) -> Result<bool, NoMemory>
         ensures of { (text : List ℕ) (reach : ℕ) → AreOf text reach self.old → AreOf text reach self.new }
-        ensures ok { (text : List ℕ) (reach : ℕ) (items : List FlowItem) (x : FlowItem) → AreOf text reach self.old → FlowScansFit self.old items
+        ensures ok { (text : List ℕ) (reach : ℕ) (items : List FlowItem) (x : FlowItem) → AreOf text reach self.old
+            → FlowScansFit self.old items
             → x.dir ≡ dir_view dir → streams.segment_of x.item ≡ Some (segment_of segment.entry)
-            → IfOk result (λ found. (found ≡ is_found text reach (items ++ x ∷ [])) × FlowScansFit self.new (items ++ x ∷ [])) }
+            → IfOk result (λ found. (found ≡ is_found text reach (items ++ x ∷ []))
+            × FlowScansFit self.new (items ++ x ∷ [])) }
         ensures err { OnErr result (self.new ≡ self.old) }
     {
         match dir {

@@ -17,8 +17,9 @@ use std::collections::BTreeMap;
 use std::fmt;
 use window_stream::Segment;
 
-/// Drops the TCP segments of a flow once the bytes in order of one of its two streams contain the text, that of the segment with it. A payload that
-/// ends more than `reach` bytes past the bytes in order does not count in its stream. Where memory runs out, the stage has failed.
+/// Drops the TCP segments of a flow once the bytes in order of one of its two streams contain the text, that of the
+/// segment with it. A payload that ends more than `reach` bytes past the bytes in order does not count in its stream.
+/// Where memory runs out, the stage has failed.
 #[derive(Drop)]
 pub struct ScanStage {
     /// The text, of 1 to 64 bytes.
@@ -80,7 +81,8 @@ impl ScanStage {
     /// The flow has its scans from now on.
     fn open(&mut self, flow: u32) -> Result<(), NoMemory>
         ensures there { OnOk result (IsSome (get nat_cmp self.new.scans flow)) }
-        ensures fits { OnOk result ((items : List FlowItem) → ScanFits self.old flow items → ScanFits self.new flow items) }
+        ensures fits { OnOk result ((items : List FlowItem) → ScanFits self.old flow items
+            → ScanFits self.new flow items) }
         ensures others { OthersKept self.old self.new flow }
         ensures same { IsSameStage self.old self.new }
     {
@@ -94,8 +96,10 @@ impl ScanStage {
 
     /// Takes a segment of a flow in, and answers whether one of its two streams contains the text.
     fn take(&mut self, flow: u32, dir: Dir, segment: Segment<'_>) -> Result<bool, NoMemory>
-        ensures ok { (items : List FlowItem) (x : FlowItem) → ScanFits self.old flow items → x.dir ≡ dir_view dir → streams.segment_of x.item ≡ Some (segment_of segment.entry)
-            → IfOk result (λ found. (found ≡ is_found self.old.text.items self.old.reach (items ++ x ∷ [])) × ScanFits self.new flow (items ++ x ∷ [])) }
+        ensures ok { (items : List FlowItem) (x : FlowItem) → ScanFits self.old flow items → x.dir ≡ dir_view dir
+            → streams.segment_of x.item ≡ Some (segment_of segment.entry)
+            → IfOk result (λ found. (found ≡ is_found self.old.text.items self.old.reach (items ++ x ∷ []))
+            × ScanFits self.new flow (items ++ x ∷ [])) }
         ensures others { OthersKept self.old self.new flow }
         ensures same { IsSameStage self.old self.new }
     {

@@ -22,11 +22,16 @@ path k m stages behind failed = record {
 -- a path without an operator means its stages, one after another
 abbrev pub StraightMeansRow : {S B : Type 0} → Kind S → (B → Flow → FlowInput → FlowOutput → Type 0) → Type 0
 StraightMeansRow {S} {B} k stands =
-    (ss : List S) (flow : Flow) (came : FlowInput) (left : FlowOutput) → ThenStands (RowHolds (held_by k)) (MaybeStands stands) ss (let none : Option B = None in none) flow came left → RowStands (stages_at k ss flow) came left
+    (ss : List S) (flow : Flow) (came : FlowInput) (left : FlowOutput)
+    → ThenStands (RowHolds (held_by k)) (MaybeStands stands) ss (let none : Option B = None in none) flow came left
+    → RowStands (stages_at k ss flow) came left
 
--- A path with an operator that means a stage: it means the stages before, this one, and the stages behind, one after another.
+-- A path with an operator that means a stage: it means the stages before, this one, and the stages behind, one after
+-- another.
 abbrev pub BentMeansRow : {S W : Type 0} → Kind S → (W → Flow → FlowInput → FlowOutput → Type 0) → Type 0
 BentMeansRow {S} {W} k stands =
-    (ss : List S) (w : W) (ts : List S) (flow : Flow) (stage : FlowStage) → ((came : FlowInput) (left : FlowOutput) → stands w flow came left → StageStands stage came left)
-    → (came : FlowInput) (left : FlowOutput) → ThenStands (RowHolds (held_by k)) (λ (w : W). ThenStands stands (RowHolds (held_by k)) w ts) ss w flow came left
+    (ss : List S) (w : W) (ts : List S) (flow : Flow) (stage : FlowStage)
+    → ((came : FlowInput) (left : FlowOutput) → stands w flow came left → StageStands stage came left)
+    → (came : FlowInput) (left : FlowOutput)
+    → ThenStands (RowHolds (held_by k)) (λ (w : W). ThenStands stands (RowHolds (held_by k)) w ts) ss w flow came left
     → RowStands (stages_at k ss flow ++ (stage ∷ stages_at k ts flow)) came left

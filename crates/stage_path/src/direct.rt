@@ -14,8 +14,8 @@ pub trait Direct: Staged {
     fn is_direct(&self) -> bool
         ensures { result ≡ true → direct self.now };
 
-    /// Treats a packet, in its own buffer. It goes on, or is dropped, as a step would put it into an outlet. Where memory runs out it
-    /// is lost, and the stages have failed: they lose each packet from then on.
+    /// Treats a packet, in its own buffer. It goes on, or is dropped, as a step would put it into an outlet. Where
+    /// memory runs out it is lost, and the stages have failed: they lose each packet from then on.
     fn treat(&mut self, class: &Class, packet: Packet<Raw>) -> Result<Packet<Raw>, Dropped>
         requires ready { Self.Operator.meaning.ready self.old }
         requires direct { direct self.old }

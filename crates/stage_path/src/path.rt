@@ -91,9 +91,11 @@ impl<S: TreatRead, W: Staged> Staged for Path<S, Option<Then<W, ReadRow<S>>>> {
     ghost use Rattle.batch_ops.specs.Treat.{in_row};
     ghost use Rattle.stage_path.specs.Means.{row_law, then_law, maybe_law, path_law};
 
-    ghost means = { path_law S.kind ⟦<Option<Then<W, ReadRow<S>>> as Operator>⟧.meaning (λ p. p.before.stages.items) (λ p. p.behind) (λ p. p.failed)
+    ghost means = { path_law S.kind ⟦<Option<Then<W, ReadRow<S>>> as Operator>⟧.meaning (λ p. p.before.stages.items)
+        (λ p. p.behind) (λ p. p.failed)
         (maybe_law ⟦<Then<W, ReadRow<S>> as Operator>⟧.meaning
-        (then_law W.meaning ⟦<ReadRow<S> as Operator>⟧.meaning (λ t. t.first) (λ t. t.second) (λ t. t.failed) W.means (row_law S.kind (λ r. r.stages.items) (λ r. r.failed)))) };
+        (then_law W.meaning ⟦<ReadRow<S> as Operator>⟧.meaning (λ t. t.first) (λ t. t.second) (λ t. t.failed) W.means
+        (row_law S.kind (λ r. r.stages.items) (λ r. r.failed)))) };
 }
 
 impl<S: TreatRead, W: Staged> Direct for Path<S, Option<Then<W, ReadRow<S>>>> {

@@ -19,7 +19,8 @@ use Rattle.flow_stages.specs.EpochMacs.{balance_by}
 use Rattle.flow_stages.specs.Inspected.{FirewallFits}
 use Rattle.scan_stage.specs.ScanKind.{ScanFits}
 use Rattle.stage_row.specs.declared.plain.PlainStage.{PlainStage}
-use Rattle.stage_row.specs.declared.plain.PlainStage.TheVariants.{Parsed, Ttl, Tos, Only, Firewall, Route, Nat, Balance, Scan}
+use Rattle.stage_row.specs.declared.plain.PlainStage.TheVariants.{Parsed, Ttl, Tos, Only, Firewall, Route, Nat, Balance}
+use Rattle.stage_row.specs.declared.plain.PlainStage.TheVariants.{Scan}
 
 -- the stage that it is, at a flow
 abbrev pub plain_stage : PlainStage → Flow → FlowStage
@@ -49,11 +50,13 @@ plain_kind = record { stage = plain_stage; fits = PlainFits; failed = plain_fail
 
 -- A row means what its stages mean one after another; what was dropped is in some order.
 abbrev pub RowMeansPlainStages : Type 0
-RowMeansPlainStages = (ss : List PlainStage) (flow : Flow) (came : FlowInput) (left : FlowOutput) → RowHolds (held_by plain_kind) ss flow came left → RowStands (map (λ s. plain_stage s flow) ss) came left
+RowMeansPlainStages = (ss : List PlainStage) (flow : Flow) (came : FlowInput) (left : FlowOutput)
+    → RowHolds (held_by plain_kind) ss flow came left → RowStands (map (λ s. plain_stage s flow) ss) came left
 
 -- no stage of the row keeps anything of a flow
 abbrev pub IsNew : PlainStage → Type 0
 IsNew s = (flow : Flow) → PlainFits s flow []
 
 abbrev pub RowBegins : Type 0
-RowBegins = (ss : List PlainStage) → AllByRecursion IsNew ss → (flow : Flow) → RowHolds (held_by plain_kind) ss flow (record { items = []; ended = None }) nothing
+RowBegins = (ss : List PlainStage) → AllByRecursion IsNew ss → (flow : Flow)
+    → RowHolds (held_by plain_kind) ss flow (record { items = []; ended = None }) nothing

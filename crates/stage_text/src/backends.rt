@@ -53,7 +53,8 @@ fn backend_values(
     before: &[Backend],
     table: &Table,
 ) -> Result<Backend, ChainFault>
-    ensures value { Gives backend_view result (spec.backend_values place (backends_view before.now) (table_view table.now)) }
+    ensures value { Gives backend_view result
+        (spec.backend_values place (backends_view before.now) (table_view table.now)) }
     ensures fresh { IfOk result (λ b. is_among b.name (backend_names before.now) ≡ false) }
 {
     let row = ["name", "mac"];

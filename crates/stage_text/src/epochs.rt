@@ -41,7 +41,8 @@ fn epoch_values(
     before: &[Change],
     table: &Table,
 ) -> Result<Change, ChainFault>
-    ensures value { Gives change_view result (spec.epoch_values place (map change_view before.now) (table_view table.now)) }
+    ensures value { Gives change_view result
+        (spec.epoch_values place (map change_view before.now) (table_view table.now)) }
     ensures rises { IfOk result (λ c. spec.last_begin (map change_view before.now) < c.from) }
     ensures right { IfOk result (λ c. IsTrue (are_backends_right (backends_view c.backends.items))) }
 {
@@ -75,7 +76,8 @@ fn epochs(alloc: Global, place: u32, array: &Array) -> Result<Vec<Change>, Chain
     ensures value { Gives (λ v. map change_view v.items) result (each (spec.epoch_at place) (array_view array.now)) }
     ensures len { IfOk result (λ v. vec_len v ≡ vec_len array.now) }
     ensures rising { IfOk result (λ v. IsTrue (are_rising 0 (map change_view v.items))) }
-    ensures right { IfOk result (λ v. IsTrue (list_all (λ c. are_backends_right c.backends) (map change_view v.items))) }
+    ensures right { IfOk result
+        (λ v. IsTrue (list_all (λ c. are_backends_right c.backends) (map change_view v.items))) }
 {
     let mut epochs = Vec::new(alloc);
     for value in array {
@@ -92,10 +94,12 @@ pub(crate) fn epochs_at(
     place: u32,
     value: Option<&Value>,
 ) -> Result<Vec<Change>, ChainFault>
-    ensures value { Gives (λ v. map change_view v.items) result (spec.epochs_at place (option_map (λ v. view v.now) value.entry)) }
+    ensures value { Gives (λ v. map change_view v.items) result
+        (spec.epochs_at place (option_map (λ v. view v.now) value.entry)) }
     ensures few { IfOk result (λ v. length v.items ≤ 15) }
     ensures rising { IfOk result (λ v. IsTrue (are_rising 0 (map change_view v.items))) }
-    ensures right { IfOk result (λ v. IsTrue (list_all (λ c. are_backends_right c.backends) (map change_view v.items))) }
+    ensures right { IfOk result
+        (λ v. IsTrue (list_all (λ c. are_backends_right c.backends) (map change_view v.items))) }
 {
     let Some(value) = value else {
         return Ok(Vec::new(alloc));

@@ -45,7 +45,8 @@ fn port_at(
     key: &str,
     value: Option<&Value>,
 ) -> Result<Option<u16>, ChainFault>
-    ensures { Gives (λ n. n) result (fields.number_at place key.now 0 65535 (option_map (λ v. view v.now) value.entry)) }
+    ensures { Gives (λ n. n) result
+        (fields.number_at place key.now 0 65535 (option_map (λ v. view v.now) value.entry)) }
 {
     match number_at(alloc, place, key, 0, 65_535, value)? {
         Some(port) => Ok(Some(port as u16)),

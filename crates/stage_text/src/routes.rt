@@ -60,7 +60,8 @@ fn rows(alloc: Global, place: u32, array: &Array) -> Result<Vec<Route>, ChainFau
 fn table_of(alloc: Global, place: u32, rows: Vec<Route>) -> Result<Routes, ChainFault>
     requires few { length rows.items ≤ 4096 }
     requires short { AreShort rows.items }
-    ensures value { Gives (map route_view) result (spec.sound_rows place (map route_view rows.items) (first_fault (map route_view rows.items))) }
+    ensures value { Gives (map route_view) result
+        (spec.sound_rows place (map route_view rows.items) (first_fault (map route_view rows.items))) }
     ensures right { IfOk result (λ routes. first_fault (map route_view routes) ≡ None) }
     ensures same { IfOk result (λ routes. routes ≡ rows.items) }
 {

@@ -82,7 +82,8 @@ pub(crate) fn rules_at(
     place: u32,
     value: Option<&Value>,
 ) -> Result<Vec<Rule>, ChainFault>
-    ensures value { Gives (λ v. map rule_view v.items) result (spec.rules_at place (option_map (λ v. view v.now) value.entry)) }
+    ensures value { Gives (λ v. map rule_view v.items) result
+        (spec.rules_at place (option_map (λ v. view v.now) value.entry)) }
     ensures few { IfOk result (λ v. length v.items ≤ 256) }
 {
     let Some(value) = value else {

@@ -166,7 +166,8 @@ fn stages(alloc: Global, place: u32, array: &Array) -> Result<Vec<Stage>, ChainF
 /// 0 to 32 stages. No value is no stage.
 #[tactic(auto, unfolding(chain_spec::specs::StageWalk::stages_at))]
 pub fn stages_at(alloc: Global, place: u32, value: Option<&Value>) -> Result<Vec<Stage>, ChainFault>
-    ensures value { Gives (λ v. stages_view v.items) result (spec.stages_at place (option_map (λ v. view v.now) value.entry)) }
+    ensures value { Gives (λ v. stages_view v.items) result
+        (spec.stages_at place (option_map (λ v. view v.now) value.entry)) }
     ensures right { IfOk result (λ v. IsTrue (are_stages_right (stages_view v.items))) }
 {
     let Some(value) = value else {

@@ -31,7 +31,8 @@ held_at name files = unwrap_or (files name) []
 abbrev pub IsThere : List ℕ → Files → Type 0
 IsThere name files = files name ≡ Some (held_at name files)
 
--- The file is there, and has a front of the bytes behind what it had; the rest of them is left. Every other name has what it had.
+-- The file is there, and has a front of the bytes behind what it had; the rest of them is left. Every other name has
+-- what it had.
 pub record Puts (name bytes left : List ℕ) (old new : Files) : Type 0 where
   pub there : IsThere name new
   pub front : List ℕ

@@ -1,4 +1,5 @@
-ghost use Rattle.std.specs.Prelude.{◌≡◌, ◌<◌, ◌≤◌, ◌^◌, List, ℕ, Some, IfOk, IsErrOf, IsSomeAnd, IsTrue, length, vec_len};
+ghost use Rattle.std.specs.Prelude.{◌≡◌, ◌<◌, ◌≤◌, ◌^◌, List, ℕ, Some, IfOk, IsErrOf, IsSomeAnd, IsTrue, length};
+ghost use Rattle.std.specs.Prelude.{vec_len};
 ghost use Rattle.brick_spec.specs.Files.{IsReading, AllStay};
 ghost use Rattle.store_files.specs.declared.reading.ReadFault.TheVariants.{NoMemory};
 ghost use Rattle.store_files.specs.WholeFiles.{Causes};
@@ -52,7 +53,8 @@ fn zeros(alloc: Global, len: usize) -> Result<Vec<u8>, AllocError>
     vec![in alloc; 0u8; len]
 }
 
-/// Reads a file through a buffer. Each read that does not end the file gives at least one byte, so there are at most `limit + 1`.
+/// Reads a file through a buffer. Each read that does not end the file gives at least one byte, so there are at most
+/// `limit + 1`.
 fn read_through<S: Store>(
     alloc: Global,
     store: &mut S,
@@ -66,9 +68,11 @@ fn read_through<S: Store>(
     requires limit { limit < 2 ^ 62 }
     ensures whole { IsTrue S.tells → IfOk result (λ v. S.file store.old name.now ≡ Some v.items) }
     ensures within { IfOk result (λ v. vec_len v ≤ limit) }
-    ensures too_long { IsTrue S.tells → IsErrOf result ReadFault.TooLong → IsSomeAnd (S.file store.old name.now) (λ content. limit < length content) }
+    ensures too_long { IsTrue S.tells → IsErrOf result ReadFault.TooLong
+        → IsSomeAnd (S.file store.old name.now) (λ content. limit < length content) }
     ensures held { IsTrue S.tells → AllStay (S.file store.old) (S.file store.new) }
-    ensures cause { Causes account name.now (S.faults store.old) (S.faults store.new) (IsErrOf result ReadFault.Failed) }
+    ensures cause { Causes account name.now (S.faults store.old) (S.faults store.new)
+        (IsErrOf result ReadFault.Failed) }
 {
     let mut bytes = Vec::new(alloc);
     while bytes.len() <= limit {
@@ -93,9 +97,11 @@ pub fn read_whole<S: Store>(
     requires limit { limit < 2 ^ 62 }
     ensures whole { IsTrue S.tells → IfOk result (λ v. S.file store.old name.now ≡ Some v.items) }
     ensures within { IfOk result (λ v. vec_len v ≤ limit) }
-    ensures too_long { IsTrue S.tells → IsErrOf result ReadFault.TooLong → IsSomeAnd (S.file store.old name.now) (λ content. limit < length content) }
+    ensures too_long { IsTrue S.tells → IsErrOf result ReadFault.TooLong
+        → IsSomeAnd (S.file store.old name.now) (λ content. limit < length content) }
     ensures held { IsTrue S.tells → AllStay (S.file store.old) (S.file store.new) }
-    ensures cause { Causes account name.now (S.faults store.old) (S.faults store.new) (IsErrOf result ReadFault.Failed) }
+    ensures cause { Causes account name.now (S.faults store.old) (S.faults store.new)
+        (IsErrOf result ReadFault.Failed) }
 {
     let mut chunk = zeros(alloc, CHUNK)?;
     read_through(alloc, store, account, name, limit, &mut chunk)

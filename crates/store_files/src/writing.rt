@@ -1,4 +1,5 @@
-ghost use Rattle.std.specs.Prelude.{◌≡◌, ◌≢◌, ◌<◌, ◌≤◌, ◌++◌, List, [], ℕ, Some, OnOk, IsOk, IsErrOf, IsTrue, map, length};
+ghost use Rattle.std.specs.Prelude.{◌≡◌, ◌≢◌, ◌<◌, ◌≤◌, ◌++◌, List, [], ℕ, Some, OnOk, IsOk, IsErrOf, IsTrue, map};
+ghost use Rattle.std.specs.Prelude.{length};
 ghost use Rattle.brick_spec.specs.Bytes.{Little};
 ghost use Rattle.brick_spec.specs.Capture.{record_text};
 ghost use Rattle.brick_spec.specs.Cause.{Rose};
@@ -40,7 +41,8 @@ pub fn write_whole<S: Store>(
 ) -> Result<(), IoFault>
     requires { IsWriting account }
     ensures ok { IsTrue S.tells → OnOk result (S.file store.new name.now ≡ Some text.now) }
-    ensures at_most { IsTrue S.tells → MayHold (S.file store.old) (S.file store.new) (record { name = name.now; bytes = text.now }) }
+    ensures at_most { IsTrue S.tells
+        → MayHold (S.file store.old) (S.file store.new) (record { name = name.now; bytes = text.now }) }
     ensures others { IsTrue S.tells → OthersStay name.now (S.file store.old) (S.file store.new) }
     ensures cause { Causes account name.now (S.faults store.old) (S.faults store.new) (IsErrOf result IoFault.Failed) }
 {
@@ -65,7 +67,8 @@ fn give_piece<S: Store>(
     requires room { length waiting.old.items ≤ 1048576 }
     requires there { IsTrue S.tells → IsThere name.now (S.file store.old) }
     ensures room { OnOk result (length waiting.new.items < 1048576) }
-    ensures ok { IsTrue S.tells → OnOk result (Puts name.now waiting.old.items waiting.new.items (S.file store.old) (S.file store.new)) }
+    ensures ok { IsTrue S.tells
+        → OnOk result (Puts name.now waiting.old.items waiting.new.items (S.file store.old) (S.file store.new)) }
     ensures grows { IsTrue S.tells → Grows name.now waiting.old.items (S.file store.old) (S.file store.new) }
     ensures cause { Causes account name.now (S.faults store.old) (S.faults store.new) (IsErrOf result IoFault.Failed) }
 {
@@ -89,8 +92,11 @@ fn put<S: Store>(
     requires room { length waiting.old.items < 1048576 }
     requires there { IsTrue S.tells → IsThere name.now (S.file store.old) }
     ensures room { OnOk result (length waiting.new.items < 1048576) }
-    ensures ok { IsTrue S.tells → OnOk result (Puts name.now (waiting.old.items ++ bytes.now) waiting.new.items (S.file store.old) (S.file store.new)) }
-    ensures grows { IsTrue S.tells → Grows name.now (waiting.old.items ++ bytes.now) (S.file store.old) (S.file store.new) }
+    ensures ok { IsTrue S.tells
+        → OnOk result (Puts name.now (waiting.old.items
+        ++ bytes.now) waiting.new.items (S.file store.old) (S.file store.new)) }
+    ensures grows { IsTrue S.tells
+        → Grows name.now (waiting.old.items ++ bytes.now) (S.file store.old) (S.file store.new) }
     ensures cause { Causes account name.now (S.faults store.old) (S.faults store.new) (IsErrOf result IoFault.Failed) }
 {
     if bytes.len() < PIECE - waiting.len() {
@@ -120,8 +126,13 @@ fn put_item<S: Store>(
     requires room { length waiting.old.items < 1048576 }
     requires there { IsTrue S.tells → IsThere name.now (S.file store.old) }
     ensures room { OnOk result (length waiting.new.items < 1048576) }
-    ensures ok { IsTrue S.tells → OnOk result (Puts name.now (waiting.old.items ++ record_text Little (entry_of (item_view item.now))) waiting.new.items (S.file store.old) (S.file store.new)) }
-    ensures grows { IsTrue S.tells → Grows name.now (waiting.old.items ++ record_text Little (entry_of (item_view item.now))) (S.file store.old) (S.file store.new) }
+    ensures ok { IsTrue S.tells
+        → OnOk result (Puts name.now (waiting.old.items
+        ++ record_text Little (entry_of (item_view item.now))) waiting.new.items (S.file store.old)
+        (S.file store.new)) }
+    ensures grows { IsTrue S.tells
+        → Grows name.now (waiting.old.items
+        ++ record_text Little (entry_of (item_view item.now))) (S.file store.old) (S.file store.new) }
     ensures cause { Causes account name.now (S.faults store.old) (S.faults store.new) (IsErrOf result IoFault.Failed) }
 {
     let head = record_head(item);
@@ -160,8 +171,13 @@ pub fn write_capture<S: Store>(
     items: &[Item],
 ) -> Result<(), IoFault>
     requires { IsWriting account }
-    ensures ok { IsTrue S.tells → OnOk result (S.file store.new name.now ≡ Some (items_text nano (map item_view items.now))) }
-    ensures at_most { IsTrue S.tells → MayHold (S.file store.old) (S.file store.new) (record { name = name.now; bytes = items_text nano (map item_view items.now) }) }
+    ensures ok { IsTrue S.tells
+        → OnOk result (S.file store.new name.now ≡ Some (items_text nano (map item_view items.now))) }
+    ensures at_most { IsTrue S.tells
+        → MayHold (S.file store.old) (S.file store.new) (record {
+          name = name.now;
+          bytes = items_text nano (map item_view items.now);
+        }) }
     ensures others { IsTrue S.tells → OthersStay name.now (S.file store.old) (S.file store.new) }
     ensures cause { Causes account name.now (S.faults store.old) (S.faults store.new) (IsErrOf result IoFault.Failed) }
 {
@@ -183,10 +199,12 @@ fn write_text<S: Store>(
     text: &Text<'_>,
 ) -> Result<(), IoFault>
     requires { IsWriting account }
-    ensures ok { IsTrue S.tells → OnOk result (S.file store.new (text_view text.now).name ≡ Some (text_view text.now).bytes) }
+    ensures ok { IsTrue S.tells
+        → OnOk result (S.file store.new (text_view text.now).name ≡ Some (text_view text.now).bytes) }
     ensures at_most { IsTrue S.tells → MayHold (S.file store.old) (S.file store.new) (text_view text.now) }
     ensures others { IsTrue S.tells → OthersStay (text_view text.now).name (S.file store.old) (S.file store.new) }
-    ensures cause { Causes account (text_view text.now).name (S.faults store.old) (S.faults store.new) (IsErrOf result IoFault.Failed) }
+    ensures cause { Causes account (text_view text.now).name (S.faults store.old) (S.faults store.new)
+        (IsErrOf result IoFault.Failed) }
 {
     let name = text.name.as_str();
     match text.content {
@@ -204,10 +222,14 @@ pub fn write_texts<S: Store>(
 ) -> Result<(), IoFault>
     requires account { IsWriting account }
     requires distinct { AreDistinct (map text_view texts.now) }
-    ensures files { IsTrue S.tells → WritesTexts (IsOk result) (λ t. IsErrOf result IoFault.Failed → Rose (S.faults store.old account t.name) (S.faults store.new account t.name)) (map text_view texts.now) (S.file store.old) (S.file store.new) }
+    ensures files { IsTrue S.tells
+        → WritesTexts (IsOk result) (λ t. IsErrOf result IoFault.Failed
+        → Rose (S.faults store.old account t.name) (S.faults store.new account t.name)) (map text_view texts.now)
+        (S.file store.old) (S.file store.new) }
     ensures later { (a : ℕ) (n : List ℕ) → S.faults store.old a n ≤ S.faults store.new a n }
     ensures others { (a : ℕ) (n : List ℕ) → a ≢ account → S.faults store.new a n ≡ S.faults store.old a n }
-    ensures cause { IsErrOf result IoFault.Failed → SomeRose account (map (λ t. t.name) (map text_view texts.now)) (S.faults store.old) (S.faults store.new) }
+    ensures cause { IsErrOf result IoFault.Failed
+        → SomeRose account (map (λ t. t.name) (map text_view texts.now)) (S.faults store.old) (S.faults store.new) }
 {
     let Some((first, rest)) = texts.split_first() else {
         return Ok(());

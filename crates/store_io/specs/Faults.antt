@@ -12,7 +12,8 @@ pub record HasCause {T : Type 0} (before now : ℕ) (result : Result T IoFault) 
   pub no_memory : IsErrOf result NoMemory → now ≡ before
 
 -- The same of the count of an account on a name. No count falls, and those of other accounts stay.
-pub record HasCauseAt {T : Type 0} (account : ℕ) (name : List ℕ) (before now : FaultCounts) (result : Result T IoFault) : Type 0 where
+pub record HasCauseAt {T : Type 0} (account : ℕ) (name : List ℕ) (before now : FaultCounts)
+    (result : Result T IoFault) : Type 0 where
   pub later : (a : ℕ) (n : List ℕ) → before a n ≤ now a n
   pub others : (a : ℕ) (n : List ℕ) → a ≢ account → now a n ≡ before a n
   pub failed : IsErrOf result Failed → Rose (before account name) (now account name)
@@ -36,6 +37,7 @@ pub record CountsOne (account : ℕ) (name : List ℕ) (before now : FaultCounts
   pub names : (a : ℕ) (n : List ℕ) → n ≢ name → now a n ≡ before a n
 
 -- `Failed` is counted once, on this account and this name, and no other answer is counted.
-pub record CountsFailed {T : Type 0} (account : ℕ) (name : List ℕ) (before now : FaultCounts) (result : Result T IoFault) : Type 0 where
+pub record CountsFailed {T : Type 0} (account : ℕ) (name : List ℕ) (before now : FaultCounts)
+    (result : Result T IoFault) : Type 0 where
   pub failed : IsErrOf result Failed → CountsOne account name before now
   pub ok : OnOk result ((a : ℕ) (n : List ℕ) → now a n ≡ before a n)

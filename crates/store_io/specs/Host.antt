@@ -15,6 +15,7 @@ pub record RaisesAccount (account : ℕ) (before now : FaultCounts) : Type 0 whe
   pub others : (a : ℕ) (n : List ℕ) → a ≢ account → now a n ≡ before a n
 
 -- `Failed` is counted once, on this account, and no success is counted.
-pub record CountsAccount {T : Type 0} (account : ℕ) (before now : FaultCounts) (result : Result T IoFault) : Type 0 where
+pub record CountsAccount {T : Type 0} (account : ℕ) (before now : FaultCounts)
+    (result : Result T IoFault) : Type 0 where
   pub failed : IsErrOf result Failed → RaisesAccount account before now
   pub ok : OnOk result ((a : ℕ) (n : List ℕ) → now a n ≡ before a n)

@@ -1,5 +1,6 @@
 -- What a store in memory keeps.
-use Rattle.std.specs.Prelude.{◌≡◌, ◌≢◌, ℕ, ◌-◌, ◌<◌, min, List, [], ◌∷◌, ◌++◌, length, take, drop, Some, None, Vec, String, string_bytes, bytes_eq, count_by, HoldsAt, ◌==◌, ◌&&◌, if◌then◌else◌}
+use Rattle.std.specs.Prelude.{◌≡◌, ◌≢◌, ℕ, ◌-◌, ◌<◌, min, List, [], ◌∷◌, ◌++◌, length, take, drop, Some, None, Vec}
+use Rattle.std.specs.Prelude.{String, string_bytes, bytes_eq, count_by, HoldsAt, ◌==◌, ◌&&◌, if◌then◌else◌}
 use Rattle.std.specs.List.{AllByRecursion}
 use Rattle.std.specs.declared.alloc.Global.{Global}
 use Rattle.brick_spec.specs.Files.{Files, FaultCounts}
@@ -28,7 +29,8 @@ pub record IsPlace (files : List File) (name : List ℕ) (i : ℕ) : Type 0 wher
   pub first : held (take i files) name ≡ None
   pub here : HoldsAt (λ f. string_bytes f.0 ≡ name) files i
 
--- As many bytes of the content from a place on as there are and fit are at the front of the buffer, and the rest of it stays.
+-- As many bytes of the content from a place on as there are and fit are at the front of the buffer, and the rest of it
+-- stays.
 pub record GivesMost (content : List ℕ) (at : ℕ) (old new : List ℕ) (n : ℕ) : Type 0 where
   pub count : n ≡ min (length old) (length content - at)
   pub bytes : new ≡ take n (drop at content) ++ drop n old

@@ -1,4 +1,5 @@
-ghost use Rattle.std.specs.Prelude.{◌≡◌, ◌<◌, ◌≤◌, ℕ, List, [], None, length, take, drop, false, IsErrOf, IfOk, OnOk, OnErr, slice_index, slice_set};
+ghost use Rattle.std.specs.Prelude.{◌≡◌, ◌<◌, ◌≤◌, ℕ, List, [], None, length, take, drop, false, IsErrOf, IfOk, OnOk};
+ghost use Rattle.std.specs.Prelude.{OnErr, slice_index, slice_set};
 ghost use Rattle.std.specs.Io.KnownBytes.{Appends, Consumes, Keeps};
 ghost use Rattle.store_io.specs.Faults.{Counted, HasCause, HasCauseAt};
 ghost use Rattle.brick_spec.specs.Cause.{one_more};

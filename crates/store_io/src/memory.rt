@@ -1,4 +1,6 @@
-ghost use Rattle.std.specs.Prelude.{◌↔◌, IsTrue, IfOk, IsErrOf, IsErr, option_copied, ◌≡◌, ◌≢◌, ◌⊎◌, ◌+◌, ◌/◌, ◌++◌, ◌∷◌, ◌≤◌, [], List, ℕ, String, Some, None, IsSomeAnd, length, take, true, IfSome, IfNone, OnOk, OnErr};
+ghost use Rattle.std.specs.Prelude.{◌↔◌, IsTrue, IfOk, IsErrOf, IsErr, option_copied, ◌≡◌, ◌≢◌, ◌⊎◌, ◌+◌, ◌/◌, ◌++◌};
+ghost use Rattle.std.specs.Prelude.{◌∷◌, ◌≤◌, [], List, ℕ, String, Some, None, IsSomeAnd, length, take, true, IfSome};
+ghost use Rattle.std.specs.Prelude.{IfNone, OnOk, OnErr};
 ghost use Rattle.brick_spec.specs.Files.{AllStay, Appends, GivesFrom, IsReading, IsWriting, OthersStay};
 ghost use Rattle.std.specs.declared.alloc.Global.{Global};
 ghost use Rattle.store_io.specs.Calls.{Reads, Creates, AppendsTo};
@@ -166,7 +168,8 @@ impl Store for MemStore {
         ensures reads { Reads name.now at (mem_files self.old) (mem_files self.new) into.new result }
         ensures cause { HasCauseAt account name.now (mem_faults self.old) (mem_faults self.new) result }
         ensures fails { FailsWhere (IsToFail self.old ⊎ (mem_files self.old name.now ≡ None)) result }
-        ensures most { IfOk result (λ n. IsSomeAnd (mem_files self.old name.now) (λ content. GivesMost content at into.old into.new n)) }
+        ensures most { IfOk result
+            (λ n. IsSomeAnd (mem_files self.old name.now) (λ content. GivesMost content at into.old into.new n)) }
         ensures into { OnErr result (into.new ≡ into.old) }
         ensures counted { CountsFailed account name.now (mem_faults self.old) (mem_faults self.new) result }
         ensures number { TakesNumber self.old self.new }
@@ -203,7 +206,8 @@ impl Store for MemStore {
         ensures appends { AppendsTo name.now bytes.now (mem_files self.old) (mem_files self.new) result }
         ensures cause { HasCauseAt account name.now (mem_faults self.old) (mem_faults self.new) result }
         ensures fails { FailsWhere (IsToFail self.old) result }
-        ensures half { IsErrOf result IoFault.Failed → Appends name.now (take (length bytes.now / 2) bytes.now) (mem_files self.old) (mem_files self.new) }
+        ensures half { IsErrOf result IoFault.Failed
+            → Appends name.now (take (length bytes.now / 2) bytes.now) (mem_files self.old) (mem_files self.new) }
         ensures counted { CountsFailed account name.now (mem_faults self.old) (mem_faults self.new) result }
         ensures number { TakesNumber self.old self.new }
     {

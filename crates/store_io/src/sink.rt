@@ -16,7 +16,8 @@ pub struct MemSink {
 }
 
 impl MemSink {
-    ghost use Rattle.store_io.specs.MemSink.{mem_written, mem_sink_faults, mem_writes, mem_sink_fails, IsWriteToFail, TakesWrite};
+    ghost use Rattle.store_io.specs.MemSink.{mem_written, mem_sink_faults, mem_writes, mem_sink_fails, IsWriteToFail};
+    ghost use Rattle.store_io.specs.MemSink.{TakesWrite};
 
     /// A sink to which nothing was written. Its writes whose numbers are in `fails` fail.
     pub fn new(alloc: Global, fails: Vec<u32>) -> MemSink
@@ -67,8 +68,10 @@ impl Sink for MemSink {
         ensures writes { Writes bytes.now (mem_written self.old) (mem_written self.new) result }
         ensures cause { HasCause (mem_sink_faults self.old) (mem_sink_faults self.new) result }
         ensures fails { FailsWhere (IsWriteToFail self.old) result }
-        ensures half { IsErrOf result IoFault.Failed → mem_written self.new ≡ mem_written self.old ++ take (length bytes.now / 2) bytes.now }
-        ensures counted { IsErrOf result IoFault.Failed → mem_sink_faults self.new ≡ one_more (mem_sink_faults self.old) }
+        ensures half { IsErrOf result IoFault.Failed
+            → mem_written self.new ≡ mem_written self.old ++ take (length bytes.now / 2) bytes.now }
+        ensures counted { IsErrOf result IoFault.Failed
+            → mem_sink_faults self.new ≡ one_more (mem_sink_faults self.old) }
         ensures uncounted { OnOk result (mem_sink_faults self.new ≡ mem_sink_faults self.old) }
         ensures number { TakesWrite self.old self.new }
     {

@@ -26,8 +26,8 @@ impl From<AllocError> for IoFault {
     }
 }
 
-/// Files by name. Each call names the account on which its faults are counted: 0 reads the chain file, `1 + 2 * t` reads
-/// and `2 + 2 * t` writes for tenant t below 16, and 33 writes what is generated.
+/// Files by name. Each call names the account on which its faults are counted: 0 reads the chain file, `1 + 2 * t`
+/// reads and `2 + 2 * t` writes for tenant t below 16, and 33 writes what is generated.
 pub trait Store {
     /// Whether it tells what it holds. Where it does not, no clause speaks of bytes.
     ghost tells: { Bool };
@@ -38,8 +38,8 @@ pub trait Store {
     /// How often each account has failed on each name.
     ghost faults: { Self → ℕ → List ℕ → ℕ };
 
-    /// Puts bytes of the file, from the place `at` on, at the front of `into` and answers how many. It answers 0 only at or
-    /// past the end of the file, or for an empty `into`. A missing file is a failure.
+    /// Puts bytes of the file, from the place `at` on, at the front of `into` and answers how many. It answers 0 only
+    /// at or past the end of the file, or for an empty `into`. A missing file is a failure.
     fn read_at(
         &mut self,
         account: u32,

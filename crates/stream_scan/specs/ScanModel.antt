@@ -6,8 +6,8 @@ use Rattle.flow_spec.specs.Scan.{first_occurrence}
 use Rattle.window_stream.specs.StreamModel.{StreamModel, StandsFor}
 use Rattle.stream_scan.specs.LastBytes.{last_bytes}
 
--- `found` is the position at which the needle first stands. The bytes of the stream below `searched` were searched, and `tail` has
--- the last of them.
+-- `found` is the position at which the needle first stands. The bytes of the stream below `searched` were searched, and
+-- `tail` has the last of them.
 pub record ScanModel : Type 0 where
   pub needle : List ℕ
   pub found : Option ℕ
@@ -35,6 +35,7 @@ pub record IsScan (s : ScanModel) : Type 0 where
 abbrev pub IsSameScan : ScanModel → ScanModel → Type 0
 IsSameScan old new = (new.needle ≡ old.needle) × (new.stream.reach ≡ old.stream.reach)
 
--- What is kept of the stream is at most twice the reach and two windows, and of the bytes that were searched less than the needle has.
+-- What is kept of the stream is at most twice the reach and two windows, and of the bytes that were searched less than
+-- the needle has.
 abbrev pub IsSmall : ScanModel → Type 0
 IsSmall s = (length s.stream.held ≤ 2 * (s.stream.reach + 1460)) × (length s.tail + 1 ≤ length s.needle)

@@ -1,5 +1,5 @@
-//! The scan straight from its definition, slowly: the bytes in order are put together from all segments, and the needle is tried at
-//! each position. It is there to compare other ways with.
+//! The scan straight from its definition, slowly: the bytes in order are put together from all segments, and the needle
+//! is tried at each position. It is there to compare other ways with.
 
 ghost use Rattle.std.specs.Prelude.{◌≡◌, ◌<◌, length, IfOk};
 ghost use Rattle.brick_spec.specs.Stream.{reassembly};
@@ -18,7 +18,8 @@ pub fn scan(
     reach: u32,
     segments: &[Segment<'_>],
 ) -> Result<Option<u64>, NoMemory>
-    ensures { IfOk result (λ found. found ≡ first_occurrence needle.now (bytes_in_order (reassembly reach (segments_in segments.now)))) }
+    ensures { IfOk result (λ found. found
+        ≡ first_occurrence needle.now (bytes_in_order (reassembly reach (segments_in segments.now)))) }
 {
     let whole = plain::reassemble(alloc, reach, segments)?;
     Ok(first_occurrence(needle, &whole.bytes))

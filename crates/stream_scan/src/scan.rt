@@ -1,6 +1,7 @@
 //! A scan.
 
-ghost use Rattle.std.specs.Prelude.{◌≡◌, ℕ, ◌+◌, ◌-◌, ◌*◌, ◌%◌, ◌<◌, ◌≤◌, ◌^◌, ◌++◌, ◌⊎◌, [], ◌∷◌, length, Option, List, IfOk, OnErr};
+ghost use Rattle.std.specs.Prelude.{◌≡◌, ℕ, ◌+◌, ◌-◌, ◌*◌, ◌%◌, ◌<◌, ◌≤◌, ◌^◌, ◌++◌, ◌⊎◌, [], ◌∷◌, length, Option};
+ghost use Rattle.std.specs.Prelude.{List, IfOk, OnErr};
 ghost use Rattle.brick_spec.specs.Stream.{StreamSegment, reassembly};
 ghost use Rattle.window_stream.specs.Answers.{segment_of};
 ghost use Rattle.window_stream.specs.StreamModel.{StandsFor};
@@ -30,9 +31,21 @@ impl Model for Scan {
 
     ghost Value = { ScanModel };
 
-    ghost view = { λ s. record { needle = s.search.needle.items; found = s.search.found; tail = s.search.tail.items; searched = s.search.searched; stream = s.stream } };
+    ghost view = { λ s. record {
+      needle = s.search.needle.items;
+      found = s.search.found;
+      tail = s.search.tail.items;
+      searched = s.search.searched;
+      stream = s.stream;
+    } };
 
-    ghost invariant = { λ s. IsScan (record { needle = s.search.needle.items; found = s.search.found; tail = s.search.tail.items; searched = s.search.searched; stream = s.stream }) };
+    ghost invariant = { λ s. IsScan (record {
+      needle = s.search.needle.items;
+      found = s.search.found;
+      tail = s.search.tail.items;
+      searched = s.search.searched;
+      stream = s.stream;
+    }) };
 }
 
 impl Scan {
@@ -49,11 +62,12 @@ impl Scan {
         })
     }
 
-    /// Takes a segment in, and answers the position at which the needle first stands in the bytes in order: none exactly
-    /// where it does not. Without memory nothing changes.
+    /// Takes a segment in, and answers the position at which the needle first stands in the bytes in order: none
+    /// exactly where it does not. Without memory nothing changes.
     pub fn take(&mut self, segment: Segment<'_>) -> Result<Option<u64>, NoMemory>
         ensures ok { (segments : List StreamSegment) → ScansFor self.old segments → IfOk result (λ found.
-            (found ≡ first_occurrence self.old.needle (bytes_in_order (reassembly self.old.stream.reach (segments ++ segment_of segment.entry ∷ []))))
+            (found ≡ first_occurrence self.old.needle (bytes_in_order (reassembly self.old.stream.reach (segments
+            ++ segment_of segment.entry ∷ []))))
             × ScansFor self.new (segments ++ segment_of segment.entry ∷ [])) }
         ensures answer { IfOk result (λ found. found ≡ self.new.found) }
         ensures same { IsSameScan self.old self.new }
@@ -85,7 +99,8 @@ fn search_on(search: &mut Search, stream: &Stream)
     requires size { stream.now.size ≡ WINDOW }
     requires there { stream.now.dropped ≤ search.old.searched - search.old.searched % WINDOW }
     requires before { search.old.searched ≤ stream.now.ready }
-    ensures goes_on { (segments : List StreamSegment) → StandsFor stream.now segments → SearchedTo search.old segments stream.now.reach
+    ensures goes_on { (segments : List StreamSegment) → StandsFor stream.now segments
+        → SearchedTo search.old segments stream.now.reach
         → SearchedTo search.new segments stream.now.reach }
     ensures needle { search.new.needle ≡ search.old.needle }
     ensures searched { search.new.searched ≡ stream.now.ready }

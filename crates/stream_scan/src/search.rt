@@ -7,7 +7,8 @@ ghost use Rattle.stream_scan.specs.LastBytes.{last_bytes};
 use arrayvec::ArrayVec;
 use memchr::memmem;
 
-/// What is known of the bytes that were searched: how many they are, the last of them, and where the needle first stands.
+/// What is known of the bytes that were searched: how many they are, the last of them, and where the needle first
+/// stands.
 #[derive(Debug, Drop)]
 pub(crate) struct Search {
     pub(crate) needle: ArrayVec<u8, 64>,
@@ -56,7 +57,8 @@ impl Search {
     /// The position at which the needle first stands, in the bytes that were searched or with a piece behind them.
     fn found_in(&self, piece: &[u8]) -> Option<u64>
         requires { self.now.searched + length piece.now < 2 ^ 64 }
-        ensures { (bytes : List ℕ) → Searched self.now bytes → result ≡ first_occurrence self.now.needle.items (bytes ++ piece.now) }
+        ensures { (bytes : List ℕ) → Searched self.now bytes
+            → result ≡ first_occurrence self.now.needle.items (bytes ++ piece.now) }
     {
         if self.found.is_some() {
             return self.found;

@@ -16,4 +16,5 @@ match_view m = record {
 
 -- every key of a port that it has is met
 abbrev pub meets_ports : match.Match → Option (ℕ × ℕ) → Bool
-meets_ports m ports = match.meets_port m.sport match.is_source ports && (match.meets_port m.dport match.is_destination ports && match.meets_port m.port match.is_either ports)
+meets_ports m ports = match.meets_port m.sport match.is_source ports
+    && (match.meets_port m.dport match.is_destination ports && match.meets_port m.port match.is_either ports)

@@ -34,7 +34,8 @@ pub record ArePlaces (frame : List ℕ) (p : Places) : Type 0 where
 
 -- the frame has no transport layer
 abbrev pub HasNoPorts : List ℕ → Type 0
-HasNoPorts frame = (l : Layer) → ip4_layer frame ≡ Some l → (tcp_layer_in frame l ≡ None) × (udp_layer_in frame l ≡ None)
+HasNoPorts frame =
+    (l : Layer) → ip4_layer frame ≡ Some l → (tcp_layer_in frame l ≡ None) × (udp_layer_in frame l ≡ None)
 
 -- the frame has the TCP layer
 abbrev pub IsTcp : List ℕ → Type 0

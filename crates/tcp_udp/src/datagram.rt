@@ -20,7 +20,8 @@ pub(crate) struct Datagram<'a> {
 
 /// The IPv4 datagram of a frame, where it has that layer.
 pub(crate) fn read_datagram(frame: &[u8]) -> Option<Datagram<'_>>
-    ensures { MatchOption result (ip4_layer frame.now ≡ None) (λ d. IsDatagram frame.now d.header.now d.payload.now d.is_cut) }
+    ensures { MatchOption result (ip4_layer frame.now
+        ≡ None) (λ d. IsDatagram frame.now d.header.now d.payload.now d.is_cut) }
 {
     let start = Eth::length(&[], frame)?;
     let (ethernet, rest) = frame.split_at(start);

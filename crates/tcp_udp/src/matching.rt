@@ -1,7 +1,8 @@
 //! What a rule or a group asks of a frame.
 
 ghost use Rattle.std.specs.Prelude.{◌≡◌, ℕ, Option, Some, None, option_map, nat_eq};
-ghost use Rattle.brick_spec.specs.Match.{meets_number, meets_prefix, meets_port, is_source, is_destination, is_either, has_no_key, meets_tuple, meets};
+ghost use Rattle.brick_spec.specs.Match.{meets_number, meets_prefix, meets_port, is_source, is_destination, is_either};
+ghost use Rattle.brick_spec.specs.Match.{has_no_key, meets_tuple, meets};
 ghost use Rattle.tcp_udp.specs.View.{tuple_view};
 ghost use Rattle.brick_base.specs.PrefixView.{prefix_view};
 
@@ -28,8 +29,8 @@ pub struct Match {
 impl Match {
     ghost use Rattle.tcp_udp.specs.MatchView.{match_view, meets_ports};
 
-    /// Whether a frame of this five-tuple meets every key. A frame without ports meets no key of a port, and a frame without an
-    /// IPv4 layer meets exactly a match without a key.
+    /// Whether a frame of this five-tuple meets every key. A frame without ports meets no key of a port, and a frame
+    /// without an IPv4 layer meets exactly a match without a key.
     pub fn meets(&self, t: &Option<Tuple>) -> bool
         ensures { result ≡ meets (match_view self.now) (option_map tuple_view t.now) }
     {
@@ -50,8 +51,8 @@ impl Match {
             && self.port.is_none()
     }
 
-    /// Whether a frame of this five-tuple meets every key. The keys of ports are tried first: most matches that are not met differ
-    /// there.
+    /// Whether a frame of this five-tuple meets every key. The keys of ports are tried first: most matches that are not
+    /// met differ there.
     pub fn meets_tuple(&self, t: &Tuple) -> bool
         ensures { result ≡ meets_tuple (match_view self.now) (tuple_view t.now) }
     {

@@ -8,8 +8,8 @@ use crate::datagram::carries;
 use brick_base::Proto;
 use eth_ip::Ip4;
 
-/// The TCP layer, in the payload of an IPv4 datagram of protocol 6 that is no fragment. Its payload goes to where the IPv4
-/// payload ends.
+/// The TCP layer, in the payload of an IPv4 datagram of protocol 6 that is no fragment. Its payload goes to where the
+/// IPv4 payload ends.
 #[derive(Clone, Copy, Debug, PartialEq, Eq)]
 pub struct Tcp;
 

@@ -2,7 +2,8 @@
 
 ghost use Rattle.std.specs.Prelude.{◌≡◌, ℕ, ◌+◌, ◌≤◌, length};
 ghost use Rattle.brick_spec.specs.Header.{word_at};
-ghost use Rattle.brick_spec.specs.Layer.{source_port, destination_port, sequence_of, acknowledgement_of, tcp_flags, tcp_window};
+ghost use Rattle.brick_spec.specs.Layer.{source_port, destination_port, sequence_of, acknowledgement_of, tcp_flags};
+ghost use Rattle.brick_spec.specs.Layer.{tcp_window};
 ghost use Rattle.brick_spec.specs.Edit.{readdressed, with_tcp_source, with_tcp_destination, with_tcp_address};
 
 use crate::ports::{destination_port, source_port};
@@ -66,8 +67,8 @@ pub fn set_tcp_destination_port(header: &mut [u8], port: u16)
     edit_word(header, 16, 2, port);
 }
 
-/// Adjusts the checksum of a header for an address of its datagram that has changed from `old` to `new`, word by word (RFC 1624,
-/// equation 3). Nothing else changes.
+/// Adjusts the checksum of a header for an address of its datagram that has changed from `old` to `new`, word by word
+/// (RFC 1624, equation 3). Nothing else changes.
 pub fn tcp_address_changed(header: &mut [u8], old: u32, new: u32)
     requires { 20 ≤ length header.old }
     ensures { header.new ≡ with_tcp_address header.old old new }

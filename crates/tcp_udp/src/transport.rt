@@ -12,8 +12,9 @@ use crate::udp_header::udp_stored;
 use brick_base::{Proto, adjust, checksum};
 use eth_ip::{header_protocol, read_word};
 
-/// Whether the TCP or the UDP checksum of a frame is right. None exactly where there is neither layer, where the frame ends before
-/// the IPv4 total length, where the UDP length goes past the IPv4 payload, or where the UDP checksum field is 0.
+/// Whether the TCP or the UDP checksum of a frame is right. None exactly where there is neither layer, where the frame
+/// ends before the IPv4 total length, where the UDP length goes past the IPv4 payload, or where the UDP checksum field
+/// is 0.
 pub fn transport_ok(frame: &[u8]) -> Option<bool>
     ensures { result ≡ transport_ok frame.now }
 {
@@ -56,8 +57,8 @@ fn is_udp_right(header: &[u8], segment: &[u8]) -> bool
     stored == right
 }
 
-/// The checksum of the pseudo-header and the segment, with 0 for the word at the checksum's place `at`. `header` is that of IPv4, and the
-/// length in the pseudo-header is that of the segment. No byte is copied.
+/// The checksum of the pseudo-header and the segment, with 0 for the word at the checksum's place `at`. `header` is
+/// that of IPv4, and the length in the pseudo-header is that of the segment. No byte is copied.
 pub fn segment_checksum(header: &[u8], segment: &[u8], at: usize) -> u16
     requires outer { 20 ≤ length header.now }
     requires even { at % 2 ≡ 0 }

@@ -45,7 +45,8 @@ impl Tuple {
 
 /// The ports, by the IPv4 header and its payload.
 fn read_ports(header: &[u8], payload: &[u8]) -> Option<(u16, u16)>
-    ensures { (frame : List ℕ) (l : Layer) → header.now ≡ header_in frame l → payload.now ≡ payload_in frame l → result ≡ option_map (ports_at frame) (transport_layer_in frame l) }
+    ensures { (frame : List ℕ) (l : Layer) → header.now ≡ header_in frame l → payload.now ≡ payload_in frame l
+        → result ≡ option_map (ports_at frame) (transport_layer_in frame l) }
 {
     if Tcp::length(header, payload).is_some() || Udp::length(header, payload).is_some() {
         Some((source_port(payload), destination_port(payload)))

@@ -8,8 +8,8 @@ use crate::datagram::carries;
 use brick_base::Proto;
 use eth_ip::{Ip4, read_word};
 
-/// The UDP layer, in the payload of an IPv4 datagram of protocol 17 that is no fragment. Its payload goes to the UDP length, or
-/// to where the IPv4 payload ends, whichever comes first.
+/// The UDP layer, in the payload of an IPv4 datagram of protocol 17 that is no fragment. Its payload goes to the UDP
+/// length, or to where the IPv4 payload ends, whichever comes first.
 #[derive(Clone, Copy, Debug, PartialEq, Eq)]
 pub struct Udp;
 

@@ -3,7 +3,8 @@
 ghost use Rattle.std.specs.Prelude.{◌≡◌, ℕ, ◌+◌, ◌≤◌, length};
 ghost use Rattle.brick_spec.specs.Header.{word_at};
 ghost use Rattle.brick_spec.specs.Layer.{source_port, destination_port, udp_total};
-ghost use Rattle.brick_spec.specs.Edit.{udp_stored, udp_adjusted, udp_readdressed, udp_edited, with_udp_source, with_udp_destination, with_udp_address};
+ghost use Rattle.brick_spec.specs.Edit.{udp_stored, udp_adjusted, udp_readdressed, udp_edited, with_udp_source};
+ghost use Rattle.brick_spec.specs.Edit.{with_udp_destination, with_udp_address};
 
 use crate::ports::{destination_port, source_port};
 use brick_base::adjust;
@@ -25,8 +26,8 @@ pub fn udp_checksum(header: &[u8]) -> u16
     read_word(header, 6)
 }
 
-/// Sets the source port of a header, and adjusts its checksum for that (RFC 1624, equation 3). A field of 0 stays 0, and a result
-/// of 0 is stored as ffff.
+/// Sets the source port of a header, and adjusts its checksum for that (RFC 1624, equation 3). A field of 0 stays 0,
+/// and a result of 0 is stored as ffff.
 pub fn set_udp_source_port(header: &mut [u8], port: u16)
     requires { 8 ≤ length header.old }
     ensures { header.new ≡ with_udp_source header.old port }
@@ -34,8 +35,8 @@ pub fn set_udp_source_port(header: &mut [u8], port: u16)
     edit_udp_word(header, 0, port);
 }
 
-/// Sets the destination port of a header, and adjusts its checksum for that (RFC 1624, equation 3). A field of 0 stays 0, and a
-/// result of 0 is stored as ffff.
+/// Sets the destination port of a header, and adjusts its checksum for that (RFC 1624, equation 3). A field of 0 stays
+/// 0, and a result of 0 is stored as ffff.
 pub fn set_udp_destination_port(header: &mut [u8], port: u16)
     requires { 8 ≤ length header.old }
     ensures { header.new ≡ with_udp_destination header.old port }
@@ -43,8 +44,8 @@ pub fn set_udp_destination_port(header: &mut [u8], port: u16)
     edit_udp_word(header, 2, port);
 }
 
-/// Adjusts the checksum of a header for an address of its datagram that has changed from `old` to `new`, word by word (RFC 1624,
-/// equation 3). A field of 0 stays 0, and a result of 0 is stored as ffff. Nothing else changes.
+/// Adjusts the checksum of a header for an address of its datagram that has changed from `old` to `new`, word by word
+/// (RFC 1624, equation 3). A field of 0 stays 0, and a result of 0 is stored as ffff. Nothing else changes.
 pub fn udp_address_changed(header: &mut [u8], old: u32, new: u32)
     requires { 8 ≤ length header.old }
     ensures { header.new ≡ with_udp_address header.old old new }
@@ -192,8 +193,8 @@ impl<'a> UdpMut<'a> {
         self.as_view().stored()
     }
 
-    /// Sets the source port, and adjusts the checksum for that (RFC 1624, equation 3). A field of 0 stays 0, and a result of 0 is
-    /// stored as ffff.
+    /// Sets the source port, and adjusts the checksum for that (RFC 1624, equation 3). A field of 0 stays 0, and a
+    /// result of 0 is stored as ffff.
     pub fn set_sport(&mut self, v: u16)
         ensures same_reference { self.new.header.ghost_name ≡ self.old.header.ghost_name }
         ensures bytes { self.new.header.now ≡ with_udp_source self.old.header.now v }
@@ -201,8 +202,8 @@ impl<'a> UdpMut<'a> {
         set_udp_source_port(self.header, v);
     }
 
-    /// Sets the destination port, and adjusts the checksum for that (RFC 1624, equation 3). A field of 0 stays 0, and a result of
-    /// 0 is stored as ffff.
+    /// Sets the destination port, and adjusts the checksum for that (RFC 1624, equation 3). A field of 0 stays 0, and a
+    /// result of 0 is stored as ffff.
     pub fn set_dport(&mut self, v: u16)
         ensures same_reference { self.new.header.ghost_name ≡ self.old.header.ghost_name }
         ensures bytes { self.new.header.now ≡ with_udp_destination self.old.header.now v }
@@ -210,8 +211,8 @@ impl<'a> UdpMut<'a> {
         set_udp_destination_port(self.header, v);
     }
 
-    /// Adjusts the checksum for an address of the datagram that has changed from `old` to `new` (RFC 1624, equation 3). A field of
-    /// 0 stays 0, and a result of 0 is stored as ffff.
+    /// Adjusts the checksum for an address of the datagram that has changed from `old` to `new` (RFC 1624, equation 3).
+    /// A field of 0 stays 0, and a result of 0 is stored as ffff.
     pub fn address_changed(&mut self, old: u32, new: u32)
         ensures same_reference { self.new.header.ghost_name ≡ self.old.header.ghost_name }
         ensures bytes { self.new.header.now ≡ with_udp_address self.old.header.now old new }

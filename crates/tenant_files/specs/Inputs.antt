@@ -13,10 +13,12 @@ abbrev pub IsInput : Type 0 → ℕ → Chain → Held → FaultCounts → Tenan
 IsInput tells t chain first now (Whole c) = tells → Captured first.files chain.capture c
 IsInput tells t chain first now TooLong = tells → IsTooLong first.files chain.capture
 IsInput tells t chain first now (Bad refusal) = tells → IsBad first.files chain.capture (refusal_view refusal)
-IsInput tells t chain first now Unread = Rose (first.faults (reading_account t) chain.capture) (now (reading_account t) chain.capture)
+IsInput tells t chain first now Unread =
+    Rose (first.faults (reading_account t) chain.capture) (now (reading_account t) chain.capture)
 
 -- so of each tenant from number t on
 abbrev pub AreInputs : Type 0 → ℕ → List Chain → Held → FaultCounts → List TenantInput → Type 0
 AreInputs tells t [] first now [] = Unit {0}
-AreInputs tells t (chain ∷ set) first now (input ∷ inputs) = IsInput tells t chain first now input × AreInputs tells (suc t) set first now inputs
+AreInputs tells t (chain ∷ set) first now (input ∷ inputs) =
+    IsInput tells t chain first now input × AreInputs tells (suc t) set first now inputs
 AreInputs tells t _ first now _ = ⊥

@@ -26,12 +26,14 @@ HasEnded tells end before now (Err no_memory) = ⊥
 abbrev pub RanOn : Type 0 → List ℕ → ℕ → Chain → List ℕ → TenantInput → Held → Held → Result TenantEnd NoMemory → Type 0
 RanOn tells out t chain refused (Whole c) before now r = Wrote tells out t chain refused c before now r
 RanOn tells out t chain refused TooLong before now r = HasEnded tells report.TooLong before now r
-RanOn tells out t chain refused (Bad refusal) before now r = HasEnded tells (report.BadCapture (refusal_view refusal)) before now r
+RanOn tells out t chain refused (Bad refusal) before now r =
+    HasEnded tells (report.BadCapture (refusal_view refusal)) before now r
 RanOn tells out t chain refused Unread before now r = HasEnded tells report.ReadFault before now r
 
--- These tenants, from number t on, may be run: their captures were read since the first moment and are as they were, and their files are
--- apart.
-pub record CanRun (tells : Type 0) (out : List ℕ) (t : ℕ) (set : List Chain) (first before : Held) (inputs : List TenantInput) : Type 0 where
+-- These tenants, from number t on, may be run: their captures were read since the first moment and are as they were,
+-- and their files are apart.
+pub record CanRun (tells : Type 0) (out : List ℕ) (t : ℕ) (set : List Chain) (first before : Held)
+    (inputs : List TenantInput) : Type 0 where
   pub read : AreInputs tells t set first before.faults inputs
   pub captures : tells → AllByRecursion (λ d. before.files d.capture ≡ first.files d.capture) set
   pub later : NoneFell first before
@@ -40,5 +42,6 @@ pub record CanRun (tells : Type 0) (out : List ℕ) (t : ℕ) (set : List Chain)
 -- what the run of all tenants did, from the first moment on
 abbrev pub AllRan : Type 0 → List ℕ → Refusals → List Chain → Held → Held → Result (Vec Line) NoMemory → Type 0
 AllRan tells out refused set first now (Ok lines) =
-    (before : Held) × (tells → AllStay first.files before.files) × TenantsRan tells out first.faults refused 0 set before now (map line_view lines.items)
+    (before : Held) × (tells → AllStay first.files before.files)
+    × TenantsRan tells out first.faults refused 0 set before now (map line_view lines.items)
 AllRan tells out refused set first now (Err no_memory) = tells → TenantsMay out refused 0 set first.files now.files

@@ -26,19 +26,29 @@ text_of out tenant nano p = record { name = output_file out tenant p.0; bytes = 
 
 -- what is counted, with outputs of these names
 abbrev pub tally_with : List (List ℕ) → TenantDone → Tally
-tally_with names done = record { accepted = done.accepted; refused = length done.refused; drops = done.drops; outputs = map output_of (zip names done.outputs.items) }
+tally_with names done = record {
+  accepted = done.accepted;
+  refused = length done.refused;
+  drops = done.drops;
+  outputs = map output_of (zip names done.outputs.items);
+}
 
 -- the files of the tenant, with these lists for its outputs and these refused records
 abbrev pub texts_with : List ℕ → Chain → Bool → List ℕ → List (List ItemInCode) → List Text
 texts_with out chain nano refused lists =
-    map (text_of out chain.name nano) (zip chain.outputs lists) ++ record { name = refused_file out chain.name; bytes = refused_text refused } ∷ []
+    map (text_of out chain.name nano) (zip chain.outputs lists)
+    ++ record { name = refused_file out chain.name; bytes = refused_text refused } ∷ []
 
 -- a tenant's files were written, or writing stopped within them
 abbrev pub WroteEnd : Type 0 → List ℕ → ℕ → Chain → List ℕ → Contents → Held → Held → report.TenantEnd → Type 0
 WroteEnd tells out t chain refused c before now (report.Done tally) =
-    (tally ≡ tally_of chain refused c) × (tells → HasWritten (tenant_subject out t chain refused) c now.files × OthersStayOf (file_names out chain) before.files now.files)
-WroteEnd tells out t chain refused c before now report.WriteFault = SomeRose (writing_account t) (file_names out chain) before.faults now.faults
-    × (tells → HasStopped (tenant_subject out t chain refused) c before now × OthersStayOf (file_names out chain) before.files now.files)
+    (tally ≡ tally_of chain refused c)
+    × (tells → HasWritten (tenant_subject out t chain refused) c now.files
+    × OthersStayOf (file_names out chain) before.files now.files)
+WroteEnd tells out t chain refused c before now report.WriteFault =
+    SomeRose (writing_account t) (file_names out chain) before.faults now.faults
+    × (tells → HasStopped (tenant_subject out t chain refused) c before now
+    × OthersStayOf (file_names out chain) before.files now.files)
 WroteEnd tells out t chain refused c before now report.TooLong = ⊥
 WroteEnd tells out t chain refused c before now (report.BadCapture fault) = ⊥
 WroteEnd tells out t chain refused c before now report.ReadFault = ⊥
@@ -47,4 +57,5 @@ WroteEnd tells out t chain refused c before now report.ReadFault = ⊥
 abbrev pub Wrote : Type 0 → List ℕ → ℕ → Chain → List ℕ → Contents → Held → Held → Result TenantEnd NoMemory → Type 0
 Wrote tells out t chain refused c before now (Ok end) = WroteEnd tells out t chain refused c before now (end_view end)
 Wrote tells out t chain refused c before now (Err no_memory) =
-    tells → AllByRecursion (MayHold before.files now.files) (texts_of out chain refused c) × OthersStayOf (file_names out chain) before.files now.files
+    tells → AllByRecursion (MayHold before.files now.files) (texts_of out chain refused c)
+    × OthersStayOf (file_names out chain) before.files now.files

@@ -28,8 +28,8 @@ pub enum ChainsFault {
     NoMemory,
 }
 
-/// Reads the chain file `chains`. The run that it is for writes to the folder `out`. The chains are 1 to 16, and no file of one of them
-/// has the name of another's file or capture.
+/// Reads the chain file `chains`. The run that it is for writes to the folder `out`. The chains are 1 to 16, and no
+/// file of one of them has the name of another's file or capture.
 pub fn read_chains<S: Store>(
     alloc: Global,
     store: &mut S,

@@ -46,10 +46,13 @@ fn read_tenant<S: Store>(
     chain: &Chain,
 ) -> Result<TenantInput, NoMemory>
     requires { tenant < 16 }
-    ensures input { IfOk result (IsInput (IsTrue S.tells) tenant (chain_view chain.now) (held (S.file store.old) (S.faults store.old)) (S.faults store.new)) }
+    ensures input { IfOk result
+        (IsInput (IsTrue S.tells) tenant (chain_view chain.now) (held (S.file store.old) (S.faults store.old))
+        (S.faults store.new)) }
     ensures held { IsTrue S.tells → AllStay (S.file store.old) (S.file store.new) }
     ensures later { (a : ℕ) (n : List ℕ) → S.faults store.old a n ≤ S.faults store.new a n }
-    ensures others { (a : ℕ) (n : List ℕ) → a ≢ cause.reading_account tenant → S.faults store.new a n ≡ S.faults store.old a n }
+    ensures others { (a : ℕ) (n : List ℕ) → a ≢ cause.reading_account tenant
+        → S.faults store.new a n ≡ S.faults store.old a n }
 {
     let bytes = match read_whole(
         alloc,
@@ -82,10 +85,12 @@ pub fn read_tenants<S: Store>(
 ) -> Result<(), NoMemory>
     requires few { tenant + length chains.now ≤ 16 }
     ensures inputs { OnOk result ((list : List _) × (inputs.new.items ≡ inputs.old.items ++ list)
-        × AreInputs (IsTrue S.tells) tenant (map chain_view chains.now) (held (S.file store.old) (S.faults store.old)) (S.faults store.new) list) }
+        × AreInputs (IsTrue S.tells) tenant (map chain_view chains.now) (held (S.file store.old) (S.faults store.old))
+        (S.faults store.new) list) }
     ensures held { IsTrue S.tells → AllStay (S.file store.old) (S.file store.new) }
     ensures later { (a : ℕ) (n : List ℕ) → S.faults store.old a n ≤ S.faults store.new a n }
-    ensures others { (a : ℕ) (n : List ℕ) → 2 * (tenant + length chains.now) < a → S.faults store.new a n ≡ S.faults store.old a n }
+    ensures others { (a : ℕ) (n : List ℕ) → 2 * (tenant + length chains.now) < a
+        → S.faults store.new a n ≡ S.faults store.old a n }
 {
     let Some((chain, rest)) = chains.split_first() else {
         return Ok(());

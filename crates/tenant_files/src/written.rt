@@ -1,5 +1,6 @@
 //! The files of a tenant, and what is counted of it.
-ghost use Rattle.std.specs.Prelude.{◌≡◌, ◌≢◌, ◌≤◌, ◌<◌, ◌^◌, ◌++◌, ℕ, List, IfOk, OnOk, IsTrue, codes, decimal, length, map, string_bytes};
+ghost use Rattle.std.specs.Prelude.{◌≡◌, ◌≢◌, ◌≤◌, ◌<◌, ◌^◌, ◌++◌, ℕ, List, IfOk, OnOk, IsTrue, codes, decimal, length};
+ghost use Rattle.std.specs.Prelude.{map, string_bytes};
 ghost use Rattle.brick_spec.specs.Cause as cause;
 ghost use Rattle.chain_types.specs.View.{chain_view};
 ghost use Rattle.run_spec.specs.Seen.{held};
@@ -34,7 +35,8 @@ fn push_outputs(
     lists: &[Items],
     outputs: &mut Vec<Output>,
 ) -> Result<(), NoMemory>
-    ensures { OnOk result (map output_view outputs.new.items ≡ map output_view outputs.old.items ++ map output_of (zip names.now lists.now)) }
+    ensures { OnOk result (map output_view outputs.new.items
+        ≡ map output_view outputs.old.items ++ map output_of (zip names.now lists.now)) }
 {
     let Some((name, more_names)) = names.split_first() else {
         return Ok(());
@@ -97,7 +99,8 @@ fn push_texts<'a>(
     lists: &'a [Items],
     texts: &mut Vec<Text<'a>>,
 ) -> Result<(), NoMemory>
-    ensures { OnOk result (map text_view texts.new.items ≡ map text_view texts.old.items ++ map (text_of out.now tenant.now nano) (zip names.now lists.now)) }
+    ensures { OnOk result (map text_view texts.new.items
+        ≡ map text_view texts.old.items ++ map (text_of out.now tenant.now nano) (zip names.now lists.now)) }
 {
     let Some((name, more_names)) = names.split_first() else {
         return Ok(());
@@ -117,7 +120,8 @@ fn push_texts<'a>(
     Ok(())
 }
 
-/// The files of the tenant with their texts, in the order in which they are written. The last one is that of the refused records.
+/// The files of the tenant with their texts, in the order in which they are written. The last one is that of the
+/// refused records.
 fn texts_in<'a>(
     alloc: Global,
     chain: &Chain,
@@ -166,9 +170,11 @@ pub fn write_made<S: Store>(
     requires few { tenant < 16 }
     requires records { length done.now.refused ≤ length capture.now.entries }
     requires made { IsMade (chain_view chain.now) done.now.refused capture.now done.now }
-    ensures wrote { Wrote (IsTrue S.tells) out.now tenant (chain_view chain.now) done.now.refused capture.now (held (S.file store.old) (S.faults store.old)) (held (S.file store.new) (S.faults store.new)) result }
+    ensures wrote { Wrote (IsTrue S.tells) out.now tenant (chain_view chain.now) done.now.refused capture.now
+        (held (S.file store.old) (S.faults store.old)) (held (S.file store.new) (S.faults store.new)) result }
     ensures later { (a : ℕ) (n : List ℕ) → S.faults store.old a n ≤ S.faults store.new a n }
-    ensures others { (a : ℕ) (n : List ℕ) → a ≢ cause.writing_account tenant → S.faults store.new a n ≡ S.faults store.old a n }
+    ensures others { (a : ℕ) (n : List ℕ) → a ≢ cause.writing_account tenant
+        → S.faults store.new a n ≡ S.faults store.old a n }
 {
     few_records(capture);
     let tally = tally_in(alloc, chain, done)?;

@@ -12,8 +12,10 @@ use Rattle.tenant_run.specs.Turns.{Carries, Waits}
 use Rattle.tenant_run.specs.declared.turns.Turns.{Turns}
 use Rattle.tenant_run.specs.declared.records.Counts.{Counts}
 
--- The first k records were taken: the classifier knows them all, and those that are not Big came to the work of the chain.
-pub record HasTaken {W : Type 0} (follows : W → Plan → Type 0) (ready : W → Type 0) (stands : W → List ClassedItem → Type 0) (ended : W → Option ℕ) (broken : W → Bool)
+-- The first k records were taken: the classifier knows them all, and those that are not Big came to the work of the
+-- chain.
+pub record HasTaken {W : Type 0} (follows : W → Plan → Type 0) (ready : W → Type 0) (stands : W → List ClassedItem
+    → Type 0) (ended : W → Option ℕ) (broken : W → Bool)
     (chain : Chain) (c : Contents) (k : ℕ) (classifier : ClassifierModel) (t : Turns W) (counts : Counts) : Type 0 where
   pub known : classifier ≡ after_frames chain.nat (take k (frames_of c))
   pub carried : Carries ready ended broken chain.bytes t

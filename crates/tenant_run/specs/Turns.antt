@@ -16,7 +16,8 @@ abbrev pub AreOf : ℕ → List BufferModel → Type 0
 AreOf room bs = AllByRecursion (IsOf room) bs
 
 -- the work may be used, and all buffers are of so many bytes
-pub record Carries {W : Type 0} (ready : W → Type 0) (ended : W → Option ℕ) (broken : W → Bool) (room : ℕ) (t : Turns W) : Type 0 where
+pub record Carries {W : Type 0} (ready : W → Type 0) (ended : W → Option ℕ) (broken : W
+    → Bool) (room : ℕ) (t : Turns W) : Type 0 where
   pub usable : ready t.work
   pub open_work : ended t.work ≡ None
   pub works : broken t.work ≡ false

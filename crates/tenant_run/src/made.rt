@@ -21,8 +21,8 @@ fn answers_mean<W: NewWork>()
     ensures { (p : Plan) (list : List ClassedItem) (n : ℕ) → W.ChainWork.answer p list n ≡ flows.answer p list n }
 {}
 
-/// What the chain makes of the capture, where no record is refused. All records are classified, also those that are longer than the
-/// chain's buffers; the others pass through one work, in the order of the capture.
+/// What the chain makes of the capture, where no record is refused. All records are classified, also those that are
+/// longer than the chain's buffers; the others pass through one work, in the order of the capture.
 pub fn make_tenant<W: NewWork>(
     alloc: Global,
     chain: &Chain,

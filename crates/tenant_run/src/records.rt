@@ -21,7 +21,8 @@ pub struct Counts {
     pub big: u32,
 }
 
-/// Takes the record of a number, with those before it taken: its class is told, and it is counted as Big, or its packet waits.
+/// Takes the record of a number, with those before it taken: its class is told, and it is counted as Big, or its packet
+/// waits.
 pub fn take_record<W: ChainWork>(
     alloc: Global,
     chain: &Chain,
@@ -36,7 +37,8 @@ pub fn take_record<W: ChainWork>(
     requires known { classifier.old ≡ after_frames (chain_view chain.now).nat (take k (frames_of capture.now)) }
     requires carries { Carries W.ready W.ended W.broken chain.now.bytes turns.old }
     requires counted { AreCounted (chain_view chain.now) capture.now k counts.old }
-    ensures known { OnOk result (classifier.new ≡ after_frames (chain_view chain.now).nat (take (k + 1) (frames_of capture.now))) }
+    ensures known { OnOk result (classifier.new
+        ≡ after_frames (chain_view chain.now).nat (take (k + 1) (frames_of capture.now))) }
     ensures carries { OnOk result (Carries W.ready W.ended W.broken chain.now.bytes turns.new) }
     ensures waits { OnOk result (Waits W.stands (accepted_upto (chain_view chain.now) capture.now k) turns.old
         → Waits W.stands (accepted_upto (chain_view chain.now) capture.now (k + 1)) turns.new) }

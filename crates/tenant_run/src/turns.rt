@@ -30,8 +30,10 @@ pub struct Turns<W: ChainWork> {
 /// Hands the packets that wait to the work. Their buffers lie ready again.
 pub fn take_turn<W: ChainWork>(alloc: Global, turns: &mut Turns<W>) -> Result<(), NoMemory>
     requires carries { (room : ℕ) × Carries W.ready W.ended W.broken room turns.old }
-    ensures carries { OnOk result ((room : ℕ) → Carries W.ready W.ended W.broken room turns.old → Carries W.ready W.ended W.broken room turns.new) }
-    ensures waits { OnOk result ((list : List ClassedItem) → Waits W.stands list turns.old → Waits W.stands list turns.new) }
+    ensures carries { OnOk result ((room : ℕ) → Carries W.ready W.ended W.broken room turns.old
+        → Carries W.ready W.ended W.broken room turns.new) }
+    ensures waits { OnOk result ((list : List ClassedItem) → Waits W.stands list turns.old
+        → Waits W.stands list turns.new) }
     ensures empty { turns.new.batch ≡ [] }
     ensures same { (p : Plan) → W.follows turns.old.work p → W.follows turns.new.work p }
 {
@@ -47,8 +49,10 @@ pub fn take_turn<W: ChainWork>(alloc: Global, turns: &mut Turns<W>) -> Result<()
 /// Makes way for one packet more: where 32 wait, they have their turn.
 fn make_way<W: ChainWork>(alloc: Global, turns: &mut Turns<W>) -> Result<(), NoMemory>
     requires carries { (room : ℕ) × Carries W.ready W.ended W.broken room turns.old }
-    ensures carries { OnOk result ((room : ℕ) → Carries W.ready W.ended W.broken room turns.old → Carries W.ready W.ended W.broken room turns.new) }
-    ensures waits { OnOk result ((list : List ClassedItem) → Waits W.stands list turns.old → Waits W.stands list turns.new) }
+    ensures carries { OnOk result ((room : ℕ) → Carries W.ready W.ended W.broken room turns.old
+        → Carries W.ready W.ended W.broken room turns.new) }
+    ensures waits { OnOk result ((list : List ClassedItem) → Waits W.stands list turns.old
+        → Waits W.stands list turns.new) }
     ensures place { OnOk result (length turns.new.batch < 32) }
     ensures same { (p : Plan) → W.follows turns.old.work p → W.follows turns.new.work p }
 {
@@ -92,7 +96,8 @@ pub fn let_wait<W: ChainWork>(
     requires fits { length entry.frame.now ≤ bytes }
     ensures carries { OnOk result (Carries W.ready W.ended W.broken bytes turns.new) }
     ensures waits { OnOk result ((list : List ClassedItem) → Waits W.stands list turns.old
-        → Waits W.stands (list ++ record { class = class_view class; item = item_of number (entry_view entry.entry) } ∷ []) turns.new) }
+        → Waits W.stands (list ++ record { class = class_view class; item = item_of number (entry_view entry.entry) }
+        ∷ []) turns.new) }
     ensures same { (p : Plan) → W.follows turns.old.work p → W.follows turns.new.work p }
 {
     make_way(alloc, turns)?;

@@ -28,11 +28,14 @@ abbrev pub rests_in : ℕ → ℕ → ℕ → List FlowItem → List FlowItem
 rests_in size reach a items = rest_in size reach Forward a 0 items ++ rest_in size reach Reversed a 1 items
 
 -- what a packet with the TCP layer did
-pub record FlowHalvesStepped (old new : FlowHalves) (dir : Dir) (p : PacketModel) (out out' : Outlet) (result : Result ⊤ NoMemory) : Type 0 where
+pub record FlowHalvesStepped (old new : FlowHalves) (dir : Dir) (p : PacketModel) (out out' : Outlet)
+    (result : Result ⊤ NoMemory) : Type 0 where
   pub added : Added
   pub moves : Moves (keyed p ∷ []) (most_windows old.forward) out out' added
   pub apart : p.j ≡ 0 → AllByRecursion (HasOtherKey (keyed p)) moves.made
-  pub goes : OnOk result ((items : List FlowItem) → FlowHalvesFit old items → FlowHalvesFit new (items ++ item_in dir p ∷ []) × (left_in added ≡ window_told old.forward.size old.forward.stream.reach items (item_in dir p)))
+  pub goes : OnOk result ((items : List FlowItem) → FlowHalvesFit old items
+      → FlowHalvesFit new (items ++ item_in dir p ∷ [])
+      × (left_in added ≡ window_told old.forward.size old.forward.stream.reach items (item_in dir p)))
   pub none_lost : OnOk result (list_any is_lost added.dropped ≡ false)
   pub lost : OnErr result (added ≡ only_lost p)
   pub same_size : new.forward.size ≡ old.forward.size

@@ -1,5 +1,6 @@
 -- What is kept of all flows, and what one packet does there.
-use Rattle.std.specs.Prelude.{ℕ, ◌≡◌, ◌≢◌, ◌+◌, ◌/◌, List, [], ◌∷◌, ◌++◌, Option, Some, None, false, Result, OnOk, OnErr, ⊤}
+use Rattle.std.specs.Prelude.{ℕ, ◌≡◌, ◌≢◌, ◌+◌, ◌/◌, List, [], ◌∷◌, ◌++◌, Option, Some, None, false, Result, OnOk}
+use Rattle.std.specs.Prelude.{OnErr, ⊤}
 use Rattle.std.specs.List.{AllByRecursion, list_any}
 use Rattle.std.specs.Ordering.{nat_cmp}
 use Rattle.std.specs.BTreeMap.{get}
@@ -38,11 +39,14 @@ abbrev pub IsSameSize : Flows → Flows → Type 0
 IsSameSize old new = (new.size ≡ old.size) × (new.reach ≡ old.reach)
 
 -- what a packet with the TCP layer did
-pub record FlowsStepped (old new : Flows) (flow : ℕ) (dir : Dir) (p : PacketModel) (out out' : Outlet) (result : Result ⊤ NoMemory) : Type 0 where
+pub record FlowsStepped (old new : Flows) (flow : ℕ) (dir : Dir) (p : PacketModel) (out out' : Outlet)
+    (result : Result ⊤ NoMemory) : Type 0 where
   pub added : Added
   pub moves : Moves (keyed p ∷ []) (old.reach / old.size + 1) out out' added
   pub apart : p.j ≡ 0 → AllByRecursion (HasOtherKey (keyed p)) moves.made
-  pub goes : OnOk result ((items : List FlowItem) → FlowsFit old flow items → FlowsFit new flow (items ++ item_in dir p ∷ []) × (left_in added ≡ window_told old.size old.reach items (item_in dir p)))
+  pub goes : OnOk result ((items : List FlowItem) → FlowsFit old flow items
+      → FlowsFit new flow (items ++ item_in dir p ∷ [])
+      × (left_in added ≡ window_told old.size old.reach items (item_in dir p)))
   pub others : OthersKept old new flow
   pub none_lost : OnOk result (list_any is_lost added.dropped ≡ false)
   pub lost : OnErr result (added ≡ only_lost p)

@@ -31,11 +31,14 @@ abbrev pub most_windows : HalfFlow → ℕ
 most_windows w = w.stream.reach / w.size + 1
 
 -- what a packet with the TCP layer did
-pub record HalfFlowStepped (old new : HalfFlow) (dir : Dir) (p : PacketModel) (out out' : Outlet) (result : Result ⊤ NoMemory) : Type 0 where
+pub record HalfFlowStepped (old new : HalfFlow) (dir : Dir) (p : PacketModel) (out out' : Outlet)
+    (result : Result ⊤ NoMemory) : Type 0 where
   pub added : Added
   pub moves : Moves (keyed p ∷ []) (most_windows old) out out' added
   pub apart : p.j ≡ 0 → AllByRecursion (HasOtherKey (keyed p)) moves.made
-  pub goes : OnOk result ((items : List FlowItem) → HalfFlowFits (dir_view dir) old items → HalfFlowFits (dir_view dir) new (items ++ item_in dir p ∷ []) × (left_in added ≡ window_told old.size old.stream.reach items (item_in dir p)))
+  pub goes : OnOk result ((items : List FlowItem) → HalfFlowFits (dir_view dir) old items
+      → HalfFlowFits (dir_view dir) new (items ++ item_in dir p ∷ [])
+      × (left_in added ≡ window_told old.size old.stream.reach items (item_in dir p)))
   pub none_lost : OnOk result (list_any is_lost added.dropped ≡ false)
   pub lost : OnErr result (added ≡ only_lost p)
   pub same_size : new.size ≡ old.size

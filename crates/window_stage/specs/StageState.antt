@@ -9,4 +9,5 @@ use Rattle.window_stage.specs.declared.flows.Flows.{Flows}
 
 -- What left is what the stage makes of what came, and what is kept of the flow stands for the items that came.
 abbrev pub WindowStands : ℕ → ℕ → Flows → Flow → FlowInput → FlowOutput → Type 0
-WindowStands size reach flows flow came left = StageStands (window_stage size reach flow) came left × FlowsFit flows flow.number came.items
+WindowStands size reach flows flow came left =
+    StageStands (window_stage size reach flow) came left × FlowsFit flows flow.number came.items

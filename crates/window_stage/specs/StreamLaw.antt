@@ -1,5 +1,6 @@
 -- What leaves a window stage tells the stream.
-use Rattle.std.specs.Prelude.{ℕ, ◌≡◌, ◌≤◌, Bool, not, ◌&&◌, nat_eq, List, [], ◌++◌, filter, flat_map, Option, Some, None}
+use Rattle.std.specs.Prelude.{ℕ, ◌≡◌, ◌≤◌, Bool, not, ◌&&◌, nat_eq, List, [], ◌++◌, filter, flat_map, Option, Some}
+use Rattle.std.specs.Prelude.{None}
 use Rattle.std.specs.List.{AllByRecursion}
 use Rattle.brick_spec.specs.Flow.{Flow, Direction}
 use Rattle.brick_spec.specs.FlowStage.{FlowItem, along}
@@ -20,10 +21,12 @@ data_of x = data_in x.item.frame (tcp_layer x.item.frame)
 abbrev pub is_window : Direction → FlowItem → Bool
 is_window dir x = is_same dir x.dir && not (nat_eq x.item.j 0)
 
--- The data of a direction's windows and of its rest, end to end, are the bytes in order of its stream: each once, from the first up to
--- the first gap.
+-- The data of a direction's windows and of its rest, end to end, are the bytes in order of its stream: each once, from
+-- the first up to the first gap.
 abbrev pub TellsStream : Type 0
 TellsStream =
-    (size reach : ℕ) (flow : Flow) (dir : Direction) (a j : ℕ) (items : List FlowItem) → (64 ≤ size) × (size ≤ 1460) → AllByRecursion (λ (x : FlowItem). x.item.j ≡ 0) items
-    → flat_map data_of (filter (is_window dir) (along (window_stage size reach flow) [] items).passed) ++ flat_map data_of (rest_in size reach dir a j items)
+    (size reach : ℕ) (flow : Flow) (dir : Direction) (a j : ℕ) (items : List FlowItem) → (64 ≤ size) × (size ≤ 1460)
+    → AllByRecursion (λ (x : FlowItem). x.item.j ≡ 0) items
+    → flat_map data_of (filter (is_window dir) (along (window_stage size reach flow) [] items).passed)
+    ++ flat_map data_of (rest_in size reach dir a j items)
     ≡ bytes_of (stream_of reach dir items).payloads 0 (ready_in reach dir items)

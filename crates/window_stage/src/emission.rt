@@ -1,6 +1,7 @@
 //! The emission of frames in spare buffers.
 
-ghost use Rattle.std.specs.Prelude.{ℕ, ◌≡◌, ◌+◌, ◌-◌, ◌*◌, ◌/◌, ◌%◌, ◌<◌, ◌≤◌, ◌^◌, [], ◌∷◌, List, length, vec_len, vec_capacity};
+ghost use Rattle.std.specs.Prelude.{ℕ, ◌≡◌, ◌+◌, ◌-◌, ◌*◌, ◌/◌, ◌%◌, ◌<◌, ◌≤◌, ◌^◌, [], ◌∷◌, List, length, vec_len};
+ghost use Rattle.std.specs.Prelude.{vec_capacity};
 ghost use Rattle.brick_spec.specs.Stream.{StreamSegment, reassembly};
 ghost use Rattle.brick_base.specs.Flow.{dir_view};
 ghost use Rattle.packetize.specs.View.{template_view};
@@ -54,7 +55,8 @@ fn emit_window(
     requires spare { 0 < length out.old.spare.free }
     requires long { 54 + size ≤ out.old.spare.bytes }
     ensures { Emitted 1 key.1 (λ xs. (segments : List StreamSegment) → StandsFor stream.now segments →
-        xs ≡ windows_from size (reassembly stream.now.reach segments) (dir_view dir) (template_view template.now) key.0 key.1 window 1) out.old out.new }
+        xs ≡ windows_from size (reassembly stream.now.reach segments) (dir_view dir)
+        (template_view template.now) key.0 key.1 window 1) out.old out.new }
 {
     let Some(bytes) = stream.window(window) else {
         // It is whole, and was not dropped.
@@ -94,7 +96,8 @@ pub(crate) fn emit_windows(
     requires spare { to - from ≤ length out.old.spare.free }
     requires long { 54 + size ≤ out.old.spare.bytes }
     ensures { Emitted (to - from) 1 (λ xs. (segments : List StreamSegment) → StandsFor stream.now segments →
-        xs ≡ windows_from size (reassembly stream.now.reach segments) (dir_view dir) (template_view template.now) a 1 from (to - from)) out.old out.new }
+        xs ≡ windows_from size (reassembly stream.now.reach segments) (dir_view dir)
+        (template_view template.now) a 1 from (to - from)) out.old out.new }
 {
     let mut key = 0;
     'each: for window in from..to {
@@ -118,7 +121,8 @@ pub(crate) fn emit_rest(
     requires spare { 0 < length out.old.spare.free }
     requires long { 54 + size ≤ out.old.spare.bytes }
     ensures { Emitted 1 key.1 (λ xs. (segments : List StreamSegment) → StandsFor stream.now segments →
-        xs ≡ rest_of size (reassembly stream.now.reach segments) (dir_view dir) key.0 key.1 (template_view template.now)) out.old out.new }
+        xs ≡ rest_of size (reassembly stream.now.reach segments) (dir_view dir) key.0 key.1
+        (template_view template.now)) out.old out.new }
 {
     let bytes = stream.rest();
     if bytes.is_empty() {

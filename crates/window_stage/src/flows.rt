@@ -28,7 +28,8 @@ pub(crate) struct Flows {
 }
 
 impl Flows {
-    ghost use Rattle.std.specs.Prelude.{ℕ, ◌≡◌, ◌+◌, ◌/◌, ◌<◌, ◌≤◌, [], ◌∷◌, ◌++◌, List, length, vec_len, vec_capacity, Some, None, IsSome, IfOk, OnOk};
+    ghost use Rattle.std.specs.Prelude.{ℕ, ◌≡◌, ◌+◌, ◌/◌, ◌<◌, ◌≤◌, [], ◌∷◌, ◌++◌, List, length, vec_len, vec_capacity};
+    ghost use Rattle.std.specs.Prelude.{Some, None, IsSome, IfOk, OnOk};
     ghost use Rattle.std.specs.Ordering.{nat_cmp};
     ghost use Rattle.std.specs.BTreeMap.{get};
     ghost use Rattle.brick_spec.specs.FlowStage.{FlowItem};

@@ -12,8 +12,8 @@ use packetize::Template;
 use std::alloc::Global;
 use window_stream::{Segment, Stream, Taken};
 
-/// What is kept of one direction of a flow: its stream, of which each window was emitted as soon as it was whole, and the
-/// template of the last packet that counted.
+/// What is kept of one direction of a flow: its stream, of which each window was emitted as soon as it was whole, and
+/// the template of the last packet that counted.
 #[derive(Drop)]
 pub(crate) struct HalfFlow {
     pub(crate) stream: Stream,

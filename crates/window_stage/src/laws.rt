@@ -1,8 +1,8 @@
 ghost use Rattle.window_stage.specs.Keys.{WindowKeys};
 ghost use Rattle.window_stage.specs.StreamLaw.{TellsStream};
 
-/// A law: what is left of an item of key (k, 0) has keys (k, 0), (k, 1) and so on, or from (k, 1) on, and the rests of a
-/// flow have keys behind those of all records.
+/// A law: what is left of an item of key (k, 0) has keys (k, 0), (k, 1) and so on, or from (k, 1) on, and the rests of
+/// a flow have keys behind those of all records.
 pub fn window_keys()
     ensures { WindowKeys }
 {}

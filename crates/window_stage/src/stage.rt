@@ -48,7 +48,8 @@ impl WindowStage {
         requires reach { (1460 ≤ reach) × (reach ≤ 1048576) }
         ensures size { result.size ≡ size }
         ensures reach { result.reach ≡ reach }
-        ensures begins { (flow : Flow) → window_meaning.stands result flow (record { items = []; ended = None }) nothing }
+        ensures begins { (flow : Flow)
+            → window_meaning.stands result flow (record { items = []; ended = None }) nothing }
         ensures works { result.failed ≡ false }
     {
         WindowStage {

@@ -20,4 +20,5 @@ PlaceIsOnly = (ready base start : ℕ) → base < 2 ^ 32 → IsOnlyPlace ready b
 
 -- there is no base exactly where no segment came
 abbrev pub BaseIsOfFirst : Type 0
-BaseIsOfFirst = (reach : ℕ) (segments : List StreamSegment) → ((reassembly reach segments).base ≡ None) ↔ (segments ≡ [])
+BaseIsOfFirst =
+    (reach : ℕ) (segments : List StreamSegment) → ((reassembly reach segments).base ≡ None) ↔ (segments ≡ [])

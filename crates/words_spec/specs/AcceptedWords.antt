@@ -1,6 +1,7 @@
--- Accepted words: which words after the program's name are a line, and which line. The matches of the crate `clap` for the
--- command `bricks [--workers N] MODE CHAINS OUT` exist, and the rules below hold. A request for help is no line.
-use Rattle.std.specs.Prelude.{ℕ, ◌-◌, ◌^◌, ◌&&◌, ◌||◌, ◌==◌, Bool, true, List, [], ◌∷◌, length, Option, Some, None, IsSome, is_some, codes, if◌then◌else◌, nat_le}
+-- Accepted words: which words after the program's name are a line, and which line. The matches of the crate `clap` for
+-- the command `bricks [--workers N] MODE CHAINS OUT` exist, and the rules below hold. A request for help is no line.
+use Rattle.std.specs.Prelude.{ℕ, ◌-◌, ◌^◌, ◌&&◌, ◌||◌, ◌==◌, Bool, true, List, [], ◌∷◌, length, Option, Some, None}
+use Rattle.std.specs.Prelude.{IsSome, is_some, codes, if◌then◌else◌, nat_le}
 use Rattle.std.specs.List.{list_all}
 use Rattle.std.specs.Str.{bytes_eq}
 use Rattle.brick_spec.specs.Decimal.{◌>>=◌, is_digit, number_after, number_of}
@@ -43,7 +44,8 @@ pub data Mode : Type 0 where
   -- makes a capture and a chain file, and runs them without lanes
   Gen : Mode
 
--- what is to be done, with how many workers, the name of the chain file, which in mode `gen` is a number, and the folder that is written to
+-- what is to be done, with how many workers, the name of the chain file, which in mode `gen` is a number, and the
+-- folder that is written to
 pub record Line : Type 0 where
   pub mode : Mode
   pub workers : ℕ
@@ -72,7 +74,9 @@ workers_of text = number_of 16 text >>= λ n. if nat_le 1 n then Some n else Non
 
 -- a letter, a digit, `_`, `.`, `/` or `-`
 abbrev pub is_path_byte : ℕ → Bool
-is_path_byte c = (nat_le 97 c && nat_le c 122) || ((nat_le 65 c && nat_le c 90) || (is_digit c || (c == 95 || (c == 46 || (c == 47 || c == 45)))))
+is_path_byte c = (nat_le 97 c
+    && nat_le c 122) || ((nat_le 65 c
+    && nat_le c 90) || (is_digit c || (c == 95 || (c == 46 || (c == 47 || c == 45)))))
 
 -- the folder of mode `gen`: 1 to 200 such characters
 abbrev pub is_plain_folder : Text → Bool
@@ -80,7 +84,8 @@ is_plain_folder out = nat_le 1 (length out) && (nat_le (length out) 200 && list_
 
 -- the number that a generated capture is made of: 1 to 20 digits, zeros in front too, below 2^64
 abbrev pub generated_number : Text → Option ℕ
-generated_number text = if nat_le 1 (length text) && nat_le (length text) 20 then number_after (2 ^ 64 - 1) 0 text else None
+generated_number text =
+    if nat_le 1 (length text) && nat_le (length text) 20 then number_after (2 ^ 64 - 1) 0 text else None
 
 -- In mode `gen` CHAINS is that number.
 abbrev pub fits_mode : Mode → Text → Text → Bool
@@ -94,7 +99,8 @@ line_in rows = do
   workers ← first_of (codes "workers") rows >>= workers_of
   chains ← first_of (codes "CHAINS") rows
   out ← first_of (codes "OUT") rows
-  if fits_mode mode chains out then Some (record { mode = mode; workers = workers; chains = chains; out = out }) else None
+  if fits_mode mode chains out then Some (record { mode = mode; workers = workers; chains = chains; out = out })
+      else None
 
 -- the line that the words are, and none where they are no line
 abbrev pub line_of : List (List ℕ) → Option Line

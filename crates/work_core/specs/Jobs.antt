@@ -10,4 +10,5 @@ use Rattle.chain_types.specs.declared.chain.Chain.{Chain}
 
 -- each record of the capture has one, by the chain's plan of translation
 abbrev pub AreClasses : Chain → Contents → List Class → Type 0
-AreClasses chain capture classes = map class_view classes ≡ classes_of (chain_view chain).nat (map (λ (e : Entry). e.frame) capture.entries)
+AreClasses chain capture classes =
+    map class_view classes ≡ classes_of (chain_view chain).nat (map (λ (e : Entry). e.frame) capture.entries)

@@ -3,7 +3,8 @@ ghost use Rattle.std.specs.List.{AllByRecursion};
 ghost use Rattle.flow_spec.specs.Answer.{ClassedItem, Answer};
 ghost use Rattle.flow_spec.specs.Plan.{Plan};
 ghost use Rattle.flow_work.specs.Buffers.{is_own, work_buffer};
-ghost use Rattle.work_core.specs.ChainWork.{TookTurn, TookEnd, GivesAnswer, HasLists, HasRisingLists, HasOwnKeys, HasCappedCounts};
+ghost use Rattle.work_core.specs.ChainWork.{TookTurn, TookEnd, GivesAnswer, HasLists, HasRisingLists, HasOwnKeys};
+ghost use Rattle.work_core.specs.ChainWork.{HasCappedCounts};
 
 use crate::{Returned, WorkResult};
 use batch_ops::Batch;
@@ -12,8 +13,8 @@ use std::alloc::Global;
 
 /// What handles the packets of a tenant at one worker, turn after turn.
 ///
-/// A value stands for the list of packets that came, with their classes, until it runs out of memory: then it has failed, and gives all
-/// buffers back unread.
+/// A value stands for the list of packets that came, with their classes, until it runs out of memory: then it has
+/// failed, and gives all buffers back unread.
 pub trait ChainWork: Drop + Send {
     /// It follows this plan, which no call changes.
     ghost follows: { Self → Plan → Type 0 };
@@ -53,7 +54,8 @@ pub trait ChainWork: Drop + Send {
         requires open_work { ended self.old ≡ None }
         ensures { TookEnd follows stands finished ended broken self.old self.new records };
 
-    /// The items of each leaf group in the order of their keys, and the counts. It answers NoMemory also where it has failed.
+    /// The items of each leaf group in the order of their keys, and the counts. It answers NoMemory also where it has
+    /// failed.
     fn take_results(self, alloc: Global) -> Result<WorkResult, NoMemory>
         ensures answer { IfOk result (λ r. GivesAnswer follows answer finished self r) }
         ensures failed { broken self ≡ true → IsErr result };

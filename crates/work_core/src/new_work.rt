@@ -21,5 +21,6 @@ pub trait NewWork: ChainWork {
         ensures works { IfOk result (λ w. Self.ChainWork.broken w ≡ false) };
 
     /// A law: its answers are those that the plan means.
-    ghost means: { (p : Plan) (list : List ClassedItem) (n : ℕ) → Self.ChainWork.answer p list n ≡ flows.answer p list n };
+    ghost means: { (p : Plan) (list : List ClassedItem) (n : ℕ)
+        → Self.ChainWork.answer p list n ≡ flows.answer p list n };
 }

@@ -21,7 +21,8 @@ use std::mem::swap;
 
 /// So many empty lists.
 fn empty_lists(alloc: Global, many: usize) -> Result<Vec<Vec<Item>>, NoMemory>
-    ensures { IfOk result (λ lists. item_lists lists.items ≡ map (λ o. let none : List ItemInCode = [] in none) (range_with_len 0 many)) }
+    ensures { IfOk result (λ lists. item_lists lists.items
+        ≡ map (λ o. let none : List ItemInCode = [] in none) (range_with_len 0 many)) }
 {
     let mut lists = Vec::new(alloc);
     'each: for done in 0..many {
@@ -75,7 +76,8 @@ fn share_out(
 
 /// Puts each list in the order of keys.
 fn sort_each(alloc: Global, lists: Vec<Vec<Item>>) -> Result<Vec<Items>, NoMemory>
-    ensures { IfOk result (λ all. map items_view all.items ≡ map (λ items. in_key_order (items_view items)) (item_lists lists.items)) }
+    ensures { IfOk result (λ all. map items_view all.items
+        ≡ map (λ items. in_key_order (items_view items)) (item_lists lists.items)) }
 {
     let mut all = Vec::new(alloc);
     for list in lists {
@@ -95,22 +97,25 @@ fn join_lists(
 ) -> Result<Vec<Items>, NoMemory>
     requires many { length groups.items ≡ length outputs.now }
     requires within { AllByRecursion (λ o. o < many) outputs.now }
-    ensures { IfOk result (λ all. map items_view all.items ≡ output_lists many outputs.now (map items_view groups.items)) }
+    ensures { IfOk result (λ all. map items_view all.items
+        ≡ output_lists many outputs.now (map items_view groups.items)) }
 {
     let lists = empty_lists(alloc, many)?;
     let lists = share_out(outputs, groups, lists)?;
     sort_each(alloc, lists)
 }
 
-/// The items of each output of a chain: those of all its leaf groups in the order of keys, and of one key those of the earlier group
-/// first. The lists are those of the leaf groups, in the order of the chain file. Without memory they are given up.
+/// The items of each output of a chain: those of all its leaf groups in the order of keys, and of one key those of the
+/// earlier group first. The lists are those of the leaf groups, in the order of the chain file. Without memory they are
+/// given up.
 pub fn join_outputs(
     alloc: Global,
     chain: &Chain,
     groups: Vec<Items>,
 ) -> Result<Vec<Items>, NoMemory>
     requires { length groups.items ≡ length (leaves_of (chain_view chain.now)) }
-    ensures { IfOk result (λ all. map items_view all.items ≡ tenant.output_lists (chain_view chain.now) (map items_view groups.items)) }
+    ensures { IfOk result (λ all. map items_view all.items
+        ≡ tenant.output_lists (chain_view chain.now) (map items_view groups.items)) }
 {
     let outputs = leaf_outputs(alloc, chain)?;
     join_lists(alloc, chain.outputs.len(), outputs.as_slice(), groups)

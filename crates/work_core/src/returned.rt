@@ -22,7 +22,8 @@ impl Model for Returned {
 
     ghost view = { λ r. buffers_of (drop r.front r.buffers.items) };
 
-    ghost invariant = { λ r. (r.front ≤ length r.buffers.items) × (drop r.front r.buffers.items ≡ map Some (buffers_of (drop r.front r.buffers.items))) };
+    ghost invariant = { λ r. (r.front ≤ length r.buffers.items)
+        × (drop r.front r.buffers.items ≡ map Some (buffers_of (drop r.front r.buffers.items))) };
 }
 
 /// Takes out what stands at a place. The place stays.

@@ -1,5 +1,6 @@
 -- Results, one behind another: the lists of each leaf group end to end, and the counts added up.
-use Rattle.std.specs.Prelude.{◌≡◌, ℕ, ◌+◌, ◌<◌, ◌≤◌, zero, suc, List, [], ◌∷◌, ◌++◌, map, flat_map, length, max, min, slice_index}
+use Rattle.std.specs.Prelude.{◌≡◌, ℕ, ◌+◌, ◌<◌, ◌≤◌, zero, suc, List, [], ◌∷◌, ◌++◌, map, flat_map, length, max, min}
+use Rattle.std.specs.Prelude.{slice_index}
 use Rattle.std.specs.List.{AllByRecursion, slice_index_or, sum_by}
 use Rattle.pcap_io.specs.declared.item.Item.{Item}
 use Rattle.work_core.specs.Outputs.{item_lists}
@@ -37,8 +38,11 @@ most_lists (part ∷ parts) = max (length part.groups.items) (most_lists parts)
 pub record IsWholeOf (parts : List WorkResult) (whole : Whole) : Type 0 where
   pub lists : (g : ℕ) → slice_index_or (item_lists whole.groups.items) g [] ≡ flat_map (list_at g) parts
   pub long : length (item_lists whole.groups.items) ≡ most_lists parts
-  pub drops : (k : ℕ) → k < 9 → slice_index whole.drops k ≡ min 4294967295 (sum_by (λ (part : WorkResult). slice_index part.drops k) parts)
+  pub drops : (k : ℕ) → k < 9
+      → slice_index whole.drops k ≡ min 4294967295 (sum_by (λ (part : WorkResult). slice_index part.drops k) parts)
 
 -- it is these results as one, where there is one at least, and each has so many leaf groups
 abbrev pub IsMergedOf : List WorkResult → WorkResult → Type 0
-IsMergedOf parts r = (leaves : ℕ) → 1 ≤ length parts → AllByRecursion (λ (part : WorkResult). length part.groups.items ≡ leaves) parts → result_view r ≡ merged leaves (map result_view parts)
+IsMergedOf parts r = (leaves : ℕ) → 1 ≤ length parts
+    → AllByRecursion (λ (part : WorkResult). length part.groups.items ≡ leaves) parts
+    → result_view r ≡ merged leaves (map result_view parts)

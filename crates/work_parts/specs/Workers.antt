@@ -25,15 +25,18 @@ answers_of plan workers list n = map (λ w. answer plan (records_for workers lis
 
 -- two workers have no flow in common
 abbrev pub WorkersHaveNoFlow : Type 0
-WorkersHaveNoFlow = (class_at : ℕ → Class) (n : ℕ) (list : List ClassedItem) (workers v w : ℕ) → AreRecords class_at n list → v ≢ w
+WorkersHaveNoFlow =
+    (class_at : ℕ → Class) (n : ℕ) (list : List ClassedItem) (workers v w : ℕ) → AreRecords class_at n list → v ≢ w
     → HaveNoFlow (records_for workers list v) (records_for workers list w)
 
 -- a flow comes to its worker whole, and in order
 abbrev pub FlowsComeWhole : Type 0
 FlowsComeWhole = (class_at : ℕ → Class) (n : ℕ) (list : List ClassedItem) (workers : ℕ) → AreRecords class_at n list
-    → AllByRecursion (λ f. filter (is_of f) (records_for workers list (worker_for workers f)) ≡ filter (is_of f) list) (flows_of list)
+    → AllByRecursion (λ f. filter (is_of f) (records_for workers list (worker_for workers f))
+    ≡ filter (is_of f) list) (flows_of list)
 
 -- Whatever the sharing, what the workers answer, joined, is what one work answers for all records.
 abbrev pub WorkersAnswerAsOne : Type 0
-WorkersAnswerAsOne = (plan : Plan) (class_at : ℕ → Class) (n : ℕ) (list : List ClassedItem) (workers : ℕ) → OwnsKeys (flow_meaning plan) → AreRecords class_at n list → 1 ≤ workers
+WorkersAnswerAsOne = (plan : Plan) (class_at : ℕ → Class) (n : ℕ) (list : List ClassedItem) (workers : ℕ)
+    → OwnsKeys (flow_meaning plan) → AreRecords class_at n list → 1 ≤ workers
     → merged (leaf_count plan) (answers_of plan workers list n) ≡ answer plan list n

@@ -14,9 +14,9 @@ fn answers_have_lists<W: ChainWork>()
     ensures { HasLists W.answer }
 {}
 
-/// Ends the works of one tenant, in a capture of so many records, and joins their results: the items of each leaf group in the order of
-/// keys, and the counts added up, each up to 4,294,967,295. Where one of them ran out of memory there is no result. The works are given
-/// up.
+/// Ends the works of one tenant, in a capture of so many records, and joins their results: the items of each leaf group
+/// in the order of keys, and the counts added up, each up to 4,294,967,295. Where one of them ran out of memory there
+/// is no result. The works are given up.
 pub fn join_parts<W: ChainWork>(
     alloc: Global,
     works: Vec<W>,

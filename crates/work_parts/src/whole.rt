@@ -54,7 +54,8 @@ fn add_counts(counts: &mut [u32; 9], more: &[u32; 9])
 
 /// Puts one result behind the others: its items behind those of each leaf group, and its counts to the counts.
 fn append_part(whole: &mut Whole, part: WorkResult) -> Result<(), NoMemory>
-    ensures groups { OnOk result (item_lists whole.new.groups.items ≡ side_by_side (item_lists whole.old.groups.items) part.groups.items) }
+    ensures groups { OnOk result (item_lists whole.new.groups.items
+        ≡ side_by_side (item_lists whole.old.groups.items) part.groups.items) }
     ensures drops { OnOk result (AreSums whole.old.drops part.drops whole.new.drops) }
 {
     add_counts(&mut whole.drops, &part.drops);
@@ -85,7 +86,8 @@ fn nine_counts(counts: &[u32; 9]) -> [u32; 9]
 
 /// Puts each list in the order of keys.
 fn sort_groups(alloc: Global, lists: Vec<Vec<Item>>) -> Result<Vec<Items>, NoMemory>
-    ensures { IfOk result (λ all. map items_view all.items ≡ map (λ items. in_key_order (items_view items)) (item_lists lists.items)) }
+    ensures { IfOk result (λ all. map items_view all.items
+        ≡ map (λ items. in_key_order (items_view items)) (item_lists lists.items)) }
 {
     let mut all = Vec::new(alloc);
     for list in lists {
@@ -96,8 +98,8 @@ fn sort_groups(alloc: Global, lists: Vec<Vec<Item>>) -> Result<Vec<Items>, NoMem
     Ok(all)
 }
 
-/// The results as one: the items of each leaf group in the order of keys, those of one key in the order of the results, and the counts
-/// added up, each up to 4,294,967,295. Without memory the results are given up.
+/// The results as one: the items of each leaf group in the order of keys, those of one key in the order of the results,
+/// and the counts added up, each up to 4,294,967,295. Without memory the results are given up.
 pub fn merge_parts(alloc: Global, parts: Vec<WorkResult>) -> Result<WorkResult, NoMemory>
     ensures { IfOk result (IsMergedOf parts.items) }
 {

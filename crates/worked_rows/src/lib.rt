@@ -9,7 +9,8 @@ ghost use Rattle.worked_rows.specs.GeneratedRows.{GeneratedRows};
 ghost use Rattle.worked_rows.specs.EpochRows.{EpochRows};
 ghost use Rattle.worked_rows.specs.GroupLaws.{SharingPicksTheFirst};
 ghost use Rattle.worked_rows.specs.ReportRows.{ReportRows};
-ghost use Rattle.worked_rows.specs.TenantRows.{Routed, CutFrameTranslated, Established, Translated, Overlaps, Wraps, BareFin, OneOutput, Big, InnerGroups, InnerGroupAfterNat, Scanned};
+ghost use Rattle.worked_rows.specs.TenantRows.{Routed, CutFrameTranslated, Established, Translated, Overlaps, Wraps};
+ghost use Rattle.worked_rows.specs.TenantRows.{BareFin, OneOutput, Big, InnerGroups, InnerGroupAfterNat, Scanned};
 
 /// Chain files, and what each gives: its chains, or its first fault.
 pub fn chain_files()
