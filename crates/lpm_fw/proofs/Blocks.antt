@@ -1,15 +1,14 @@
 -- Cells and their blocks.
-use Rattle.std.proofs.Common.{◌≡◌, ◌∙◌, ℕ, zero, suc, ◌+◌, ◌-◌, ◌*◌, ◌^◌, ◌<◌, ◌≤◌, Bool, true, false, MatchBool, nat_lt, refl, sym, ap, arith, subst, List, [], ◌∷◌, ◌++◌, ◌==◌, Some, None, length, get_or, inl, inr}
+use Rattle.std.proofs.Common.{◌≡◌, ◌∙◌, ℕ, zero, suc, ◌+◌, ◌-◌, ◌*◌, ◌^◌, ◌<◌, ◌≤◌, Bool, true, false, MatchBool, nat_lt, refl, sym, ap, arith, subst, List, [], ◌∷◌, ◌++◌, ◌==◌, Some, None, IfSome, length, length-append, get_or, inl, inr}
 use Rattle.std.specs.List.{slice_get, slice_index, slice_set}
-use Rattle.std.specs.declared.result.Result.{Result}
-use Rattle.std.specs.declared.result.Result.TheVariants.{Ok, Err}
-use Rattle.std.specs.Result.{IfOk}
-use Rattle.std.proofs.lemmas.List.{get_or-set_other, get_or_append_left, get_or_push, length_push}
+use Rattle.std.proofs.lemmas.List.{get_or-set_other, get_or_append_left, get_or-append_right}
+use Rattle.std.proofs.Math.Nat.{pow-le-pow_right}
 use Rattle.std.proofs.lemmas.Grind.{get_or-set_at}
 use Rattle.std.proofs.lemmas.Bool.{cases_lt, eqb-true}
 use Rattle.std.proofs.lemmas.Bool.Decides.{nat_tests}
 use Rattle.lpm_fw.specs.declared.routes.Route.{Route}
-use Rattle.lpm_fw.specs.Cells.{IsCell, IsRowCell, AreMore, AreParts, AreCells}
+use Rattle.lpm_fw.specs.Cells.{IsCell, IsRowCell, AreMore, AreParts, AreCells, AreSorted, HaveRows, row_of}
+use Rattle.lpm_fw.proofs.Sorted.{row_cell_found}
 
 abbrev Block : List Route → List (List ℕ) → ℕ → ℕ → ℕ → Type 0
 Block rows blocks level a cell = (block : List ℕ) × (slice_get blocks (cell - 4097) ≡ Some block) × AreParts rows blocks level a block 256
@@ -52,12 +51,18 @@ part_more rows old new level a block n cell long within more parts is i less =
           subst (IsCell rows new level (a * 256 + i)) (sym same) (subst (λ (k : ℕ). IsCell rows new level (a * 256 + k) cell) e is)
     ]
 
--- an address's first bits and eight more
-pub room : (level a : ℕ) → level ≤ 2 → 0 < level → a < 2 ^ (32 - 8 * level) → a * 256 + 255 < 2 ^ 32
-room zero a few above less = absurd (omega arith)
-room (suc zero) a few above less = let e : a < 16777216 = less in omega arith
-room (suc (suc zero)) a few above less = let e : a < 65536 = less in omega arith
-room (suc (suc (suc level))) a few above less = absurd (omega arith)
+-- a part of a range, by its number
+pub room : (level a : ℕ) → level ≤ 2 → a < 2 ^ (24 - 8 * level) → a * 256 + 255 < 2 ^ (32 - 8 * level)
+room zero a few less = let e : a < 16777216 = less in let goal : a * 256 + 255 < 4294967296 = omega arith in goal
+room (suc zero) a few less = let e : a < 65536 = less in let goal : a * 256 + 255 < 16777216 = omega arith in goal
+room (suc (suc zero)) a few less = let e : a < 256 = less in let goal : a * 256 + 255 < 65536 = omega arith in goal
+room (suc (suc (suc level))) a few less = absurd (omega arith)
+
+pub room_32 : (level a : ℕ) → level ≤ 2 → a < 2 ^ (24 - 8 * level) → a * 256 + 255 < 2 ^ 32
+room_32 level a few less =
+    let r = room level a few less in
+    let wide : 2 ^ (32 - 8 * level) ≤ 2 ^ 32 = pow-le-pow_right {n = 2} (omega arith) {i = 32 - 8 * level} {j = 32} (omega arith) in
+    omega arith
 
 pub no_items : (xs : List ℕ) → true ≡ (length xs == 0) → xs ≡ []
 no_items [] e = refl
@@ -67,24 +72,44 @@ pub above_zero : (level : ℕ) (xs : List ℕ) → (level ≡ 0 → xs ≡ []) �
 above_zero zero xs none e = absurd (let no : false ≡ true = e ∙ ap (λ (ys : List ℕ). length ys == 0) (none refl) in cc)
 above_zero (suc level) xs none e = omega arith
 
--- the block of a range is put behind the others
-pub block_put : {E : Type 0} (r : Result ℕ E) (rows : List Route) (old new : List (List ℕ)) (level a : ℕ) (block : List ℕ) (n : ℕ) → IfOk r (λ cell. 4097 ≤ cell)
-    → IfOk r (λ cell. slice_get new (cell - 4097) ≡ Some block) → 0 < level → AreMore old new → 256 ≤ n → AreParts rows old (level - 1) a block n → IfOk r (λ cell. IsCell rows new level a cell)
-block_put (Ok cell) rows old new level a block n many there above more whole parts =
-    cell_of_block rows new level a cell block many above there (λ i within. cell_more rows old new (level - 1) (a * 256 + i) (slice_index block i) more (parts i (omega arith)))
-block_put (Err e) rows old new level a block n many there above more whole parts = tt
+-- a cell of a row of the table
+few_rows : (rows : ℕ) (cell : ℕ) → rows ≤ 4096 → IfSome (row_of cell) (λ r. r < rows) → cell < 4097
+few_rows rows zero few row = omega arith
+few_rows rows (suc r) few row = omega arith
 
--- a cell more at the top
-pub root_more : (rows : List Route) (root : List ℕ) (old new : List (List ℕ)) (n cell : ℕ) → AreCells rows root old n → AreMore old new → IsCell rows new 2 n cell → AreCells rows (root ++ cell ∷ []) new (n + 1)
-root_more rows root old new n cell are more is = record {
-  long = length_push root cell ∙ ap (λ (k : ℕ). k + 1) are.long;
-  each = λ a less. elim (cases_lt a n) [
+-- a part with no row inside it has the cell of its row
+pub part_of_row : (rows : List Route) (blocks : List (List ℕ)) (level a : ℕ) (cells divided inside : List ℕ) (n : ℕ) → length rows ≤ 4096 → n < 256 → HaveRows rows divided → inside ≡ []
+    → ((j : ℕ) → n ≤ j → slice_index cells j ≡ slice_index divided j) → AreSorted rows (8 * level) (a * 256 + n) [] 0 inside (row_of (slice_index divided n))
+    → AreParts rows blocks level a cells n → AreParts rows blocks level a cells (n + 1)
+part_of_row rows blocks level a cells divided inside n few within have none same sorted parts i less =
+    elim (cases_lt i n) [
+      | inl before ↦ parts i before
+      | inr last ↦
+          let e : n ≡ i = omega arith in
+          let cell = cell_of_row rows blocks level (a * 256 + n) (slice_index divided n) (few_rows (length rows) (slice_index divided n) few (have.each n within))
+          (row_cell_found rows (8 * level) (a * 256 + n) (slice_index divided n) inside (row_of (slice_index divided n)) sorted none refl) in
+          subst (λ (k : ℕ). IsCell rows blocks level (a * 256 + k) (slice_index cells k)) e (subst (IsCell rows blocks level (a * 256 + n)) (sym (same n (omega arith))) cell)
+    ]
+
+-- a part with rows inside it has a block
+pub part_of_block : (rows : List Route) (old now new : List (List ℕ)) (level a : ℕ) (cells block : List ℕ) (n cell : ℕ) → length cells ≡ 256 → n < 256 → 0 < level → AreMore old now → AreMore now new
+    → AreParts rows old level a cells n → AreParts rows now (level - 1) (a * 256 + n) block 256 → 4097 ≤ cell → slice_get new (cell - 4097) ≡ Some block → AreParts rows new level a (slice_set cells n cell) (n + 1)
+part_of_block rows old now new level a cells block n cell long within above more more' parts of_block many there =
+    part_more rows old new level a cells n cell long within (λ k b at. more' k b (more k b at)) parts
+    (cell_of_block rows new level (a * 256 + n) cell block many above there (λ i less. cell_more rows now new (level - 1) ((a * 256 + n) * 256 + i) (slice_index block i) more' (of_block i less)))
+
+-- a range's cells more at the top
+pub root_more : (rows : List Route) (root cells : List ℕ) (old new : List (List ℕ)) (high : ℕ) → length cells ≡ 256 → AreCells rows root old (high * 256) → AreMore old new → AreParts rows new 2 high cells 256
+    → AreCells rows (root ++ cells) new (high * 256 + 256)
+root_more rows root cells old new high long are more parts = record {
+  long = length-append root cells ∙ ap (λ (k : ℕ). k + length cells) are.long ∙ ap (λ (k : ℕ). high * 256 + k) long;
+  each = λ a less. elim (cases_lt a (high * 256)) [
     | inl before ↦
-        let same : slice_index (root ++ cell ∷ []) a ≡ slice_index root a = get_or_append_left root (cell ∷ []) 0 a (let l = are.long in omega arith) in
+        let same : slice_index (root ++ cells) a ≡ slice_index root a = get_or_append_left root cells 0 a (let l = are.long in omega arith) in
         subst (IsCell rows new 2 a) (sym same) (cell_more rows old new 2 a (slice_index root a) more (are.each a before))
-    | inr last ↦
-        let e : n ≡ a = omega arith in
-        let here : slice_index (root ++ cell ∷ []) a ≡ cell = get_or_push root cell 0 a (are.long ∙ e) in
-        subst (IsCell rows new 2 a) (sym here) (subst (λ (k : ℕ). IsCell rows new 2 k cell) e is)
+    | inr past ↦
+        let e : high * 256 + (a - high * 256) ≡ a = omega arith in
+        let here : slice_index (root ++ cells) a ≡ slice_index cells (a - high * 256) = get_or-append_right root cells (high * 256) a 0 are.long past in
+        subst (IsCell rows new 2 a) (sym here) (subst (λ (k : ℕ). IsCell rows new 2 k (slice_index cells (a - high * 256))) e (parts (a - high * 256) (omega arith)))
   ];
 }

@@ -2,6 +2,9 @@ mod FirstFault
 mod Firsts
 mod Ranges
 mod Sorted
+mod Division
+mod Cover
+mod Places
 mod Blocks
 mod Choice
 mod Unique

@@ -1,12 +1,14 @@
 -- A row more that is sorted by its side of a range.
-use Rattle.std.proofs.Common.{◌≡◌, ◌≢◌, ◌∙◌, ℕ, ◌+◌, ◌-◌, ◌/◌, ◌^◌, ◌<◌, ◌≤◌, true, false, refl, sym, ap, arith, subst, List, [], IfSome, Some, None, length, Option, ◌⊎◌, inl, inr}
+use Rattle.std.proofs.Common.{◌≡◌, ◌≢◌, ◌∙◌, ℕ, ◌+◌, ◌-◌, ◌/◌, ◌^◌, ◌<◌, ◌≤◌, true, false, refl, sym, ap, arith, subst, List, [], ◌∷◌, ◌++◌, IfSome, Some, None, length, Option, ◌⊎◌, inl, inr}
 use Rattle.std.specs.List.{slice_get}
 use Rattle.std.proofs.lemmas.Bool.{cases_lt}
-use Rattle.std.proofs.lemmas.Option.{same_Some, slice_get_within}
+use Rattle.std.proofs.lemmas.Option.{same_Some, slice_get_within, slice_get-get_or}
+use Rattle.std.proofs.lemmas.List.{length_push, get_or_append_left, get_or_push}
+use Rattle.std.proofs.Math.Nat.{div-eq_of_lt}
 use Rattle.brick_spec.specs.Route as spec
 use Rattle.lpm_fw.specs.declared.routes.Route.{Route}
 use Rattle.lpm_fw.specs.RouteView.{route_view}
-use Rattle.lpm_fw.specs.Cells.{AreSorted, IsAmong, IsAsLong, BestLeads, LeadsToAll, LeadsToNone, Finds, IsLongest, IsRowCell, row_of}
+use Rattle.lpm_fw.specs.Cells.{AreSorted, IsInside, IsAmong, IsAsLong, IsLonger, BestLeads, LeadsToAll, LeadsToNone, Finds, IsLongest, IsRowCell, row_of}
 use Rattle.lpm_fw.proofs.Ranges.{first_bits}
 
 -- nothing is in an empty list
@@ -46,20 +48,60 @@ sorted_apart rows w a list from k row inside best there none at s = record {
 }
 
 pub sorted_around : (rows : List Route) (w a : ℕ) (list : List ℕ) (from k : ℕ) (row : Route) (inside : List ℕ) (best best' : Option ℕ)
-    → slice_get rows k ≡ Some row → BestLeads rows w a best' → ((bits : ℕ) → IsAsLong rows bits best → IsAsLong rows bits best') → IsAsLong rows row.bits best'
-    → slice_get list from ≡ Some k → AreSorted rows w a list from inside best → AreSorted rows w a list (from + 1) inside best'
-sorted_around rows w a list from k row inside best best' there leads' kept long at s = record {
-  leads = leads';
+    → slice_get rows k ≡ Some row → LeadsToAll w a row → IsLonger rows best k best' → slice_get list from ≡ Some k → AreSorted rows w a list from inside best
+    → AreSorted rows w a list (from + 1) inside best'
+sorted_around rows w a list from k row inside best best' there leads' longer at s = record {
+  leads = longer.leads w a s.leads (λ other at_k. subst (LeadsToAll w a) (same_Some row other (sym there ∙ at_k)) leads');
   within = s.within;
   all = λ addr n other e at_n leads. elim (s.all addr n other e at_n leads) [
     | inr (inl among) ↦ inr (inl among)
-    | inr (inr short) ↦ inr (inr (kept other.bits short))
+    | inr (inr short) ↦ inr (inr (longer.kept other.bits short))
     | inl among ↦ elim (later list from k n at among) [
       | inr later ↦ inl later
-      | inl same ↦
-          let one : Some row ≡ Some other = sym there ∙ ap (slice_get rows) (sym same) ∙ at_n in
-          let r : row ≡ other = same_Some row other one in
-          inr (inr (subst (λ (x : Route). IsAsLong rows x.bits best') r long))
+      | inl same ↦ inr (inr (longer.long other (ap (slice_get rows) (sym same) ∙ at_n)))
+    ]
+  ];
+}
+
+-- a list and one more
+get_before : (xs : List ℕ) (y i : ℕ) → i < length xs → slice_get (xs ++ y ∷ []) i ≡ slice_get xs i
+get_before xs y i within =
+    slice_get-get_or (xs ++ y ∷ []) i y (let l = length_push xs y in omega arith) ∙ ap (λ (n : ℕ). Some n) (get_or_append_left xs (y ∷ []) y i within) ∙ sym (slice_get-get_or xs i y within)
+
+get_last : (xs : List ℕ) (y : ℕ) → slice_get (xs ++ y ∷ []) (length xs) ≡ Some y
+get_last xs y = slice_get-get_or (xs ++ y ∷ []) (length xs) y (let l = length_push xs y in omega arith) ∙ ap (λ (n : ℕ). Some n) (get_or_push xs y y (length xs) refl)
+
+-- what is among some rows is among them and one more
+among_more : (inside : List ℕ) (k n : ℕ) → IsAmong n inside 0 → IsAmong n (inside ++ k ∷ []) 0
+among_more inside k n (j, least, there) = (j, least, get_before inside k j (slice_get_within inside j n there) ∙ there)
+
+-- and so is that one
+among_last : (inside : List ℕ) (k : ℕ) → IsAmong k (inside ++ k ∷ []) 0
+among_last inside k = (length inside, (omega arith), get_last inside k)
+
+inside_more : (rows : List Route) (w a k : ℕ) (inside : List ℕ) → ((j n : ℕ) → slice_get inside j ≡ Some n → IsInside rows w a n) → IsInside rows w a k
+    → (j n : ℕ) → slice_get (inside ++ k ∷ []) j ≡ Some n → IsInside rows w a n
+inside_more rows w a k inside each is j n at =
+    elim (cases_lt j (length inside)) [
+      | inl before ↦ each j n (sym (get_before inside k j before) ∙ at)
+      | inr past ↦
+          let within = slice_get_within (inside ++ k ∷ []) j n at in
+          let long = length_push inside k in
+          let e : j ≡ length inside = omega arith in
+          subst (IsInside rows w a) (same_Some k n (sym (get_last inside k) ∙ ap (slice_get (inside ++ k ∷ [])) (sym e) ∙ at)) is
+    ]
+
+pub sorted_inside : (rows : List Route) (w a : ℕ) (list : List ℕ) (from k : ℕ) (inside : List ℕ) (best : Option ℕ)
+    → IsInside rows w a k → slice_get list from ≡ Some k → AreSorted rows w a list from inside best → AreSorted rows w a list (from + 1) (inside ++ k ∷ []) best
+sorted_inside rows w a list from k inside best is at s = record {
+  leads = s.leads;
+  within = inside_more rows w a k inside s.within is;
+  all = λ addr n other e at_n leads. elim (s.all addr n other e at_n leads) [
+    | inr (inl among) ↦ inr (inl (among_more inside k n among))
+    | inr (inr short) ↦ inr (inr short)
+    | inl among ↦ elim (later list from k n at among) [
+      | inr later ↦ inl later
+      | inl same ↦ inr (inl (subst (λ (m : ℕ). IsAmong m (inside ++ k ∷ []) 0) (sym same) (among_last inside k)))
     ]
   ];
 }
@@ -123,13 +165,18 @@ row_cell_found rows w a cell inside best s none e = record {
 }
 
 -- all rows, of all addresses
-pub sorted_every : (rows : List Route) (every : List ℕ) (a : ℕ) → length every ≡ length rows → ((k : ℕ) → k < length every → slice_get every k ≡ Some k) → AreSorted rows 32 a [] 0 every None
-sorted_every rows every a long at = record {
+pub sorted_every : (rows : List Route) (every : List ℕ) → length every ≡ length rows
+    → ((k : ℕ) → k < length every → slice_get every k ≡ Some k) → AreSorted rows 32 0 [] 0 every None
+sorted_every rows every long at = record {
   leads = tt;
   within = λ j k there.
       let w = slice_get_within every j k there in
       let e : j ≡ k = same_Some j k (sym (at j w) ∙ there) in
-      omega arith;
+      record {
+        within = omega arith;
+        few = λ row at_k. omega arith;
+        here = λ row at_k fits. div-eq_of_lt fits;
+      };
   all = λ addr k other e there leads.
       let w = slice_get_within rows k other there in
       inr (inl (k, (omega arith), at k (omega arith)));

@@ -18,4 +18,5 @@ prefix_cmp a b = ordering_then (nat_cmp a.to b.to) (nat_cmp a.bits b.bits)
 
 -- of each prefix, the first of these rows that has it
 abbrev pub AreFirsts : List Route → BTreeMap Prefix ℕ → Type 0
-AreFirsts before firsts = (q : Prefix) → get prefix_cmp firsts q ≡ position (spec.is_same_prefix (prefix_view q)) (map route_view before)
+AreFirsts before firsts =
+    (q : Prefix) → get prefix_cmp firsts q ≡ position (spec.is_same_prefix (prefix_view q)) (map route_view before)

@@ -1,5 +1,6 @@
 -- What a firewall stage knows where it decides the items of flows one by one, in the order in which they come.
-use Rattle.std.specs.Prelude.{ℕ, Bool, IsTrue, ◌≡◌, ◌==◌, if◌then◌else◌, List, [], ◌∷◌, ◌++◌, Option, option_map, Result, Ok, Err}
+use Rattle.std.specs.Prelude.{ℕ, Bool, IsTrue, ◌≡◌, ◌==◌, if◌then◌else◌, List, [], ◌∷◌, ◌++◌, Option, option_map}
+use Rattle.std.specs.Prelude.{Result, Ok, Err}
 use Rattle.std.specs.List.{list_any}
 use Rattle.std.specs.FinSet as set
 use Rattle.brick_spec.specs.Tuple.{tuple_of}
@@ -22,10 +23,11 @@ stage_of established rules = spec.firewall established rules.rows rules.default
 abbrev pub opens : Rules → FlowItem → Bool
 opens rules x = spec.opens rules.rows rules.default x
 
--- The set stands for the flows of which, among the items before, one that goes forward was allowed. A stage without `established`
--- keeps no set.
+-- The set stands for the flows of which, among the items before, one that goes forward was allowed. A stage without
+-- `established` keeps no set.
 abbrev pub StandsFor : Bool → Rules → Established → (ℕ → List FlowItem) → Type 0
-StandsFor established rules flows before = IsTrue established → (flow : ℕ) → set.contains flows flow ≡ list_any (opens rules) (before flow)
+StandsFor established rules flows before =
+    IsTrue established → (flow : ℕ) → set.contains flows flow ≡ list_any (opens rules) (before flow)
 
 -- the items of each flow, once this one of a flow came
 abbrev pub with_item : (ℕ → List FlowItem) → ℕ → FlowItem → ℕ → List FlowItem

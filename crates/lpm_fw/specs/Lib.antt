@@ -1,5 +1,6 @@
 pub mod RouteView
 pub mod Scan
+pub mod Parts
 pub mod Cells
 pub mod Firsts
 pub mod RuleView

@@ -22,11 +22,14 @@ pub record IsBest (rows : List Route) (addr n r : ℕ) : Type 0 where
   pub there : slice_get rows r ≡ Some row
   pub below : r < n
   pub here : spec.leads_to addr (route_view row) ≡ true
-  pub longest : (k : ℕ) (other : Route) → k < n → slice_get rows k ≡ Some other → spec.leads_to addr (route_view other) ≡ true → other.bits ≤ row.bits
-  pub earliest : (k : ℕ) (other : Route) → k < r → slice_get rows k ≡ Some other → spec.leads_to addr (route_view other) ≡ true → other.bits < row.bits
+  pub longest : (k : ℕ) (other : Route) → k < n → slice_get rows k ≡ Some other
+      → spec.leads_to addr (route_view other) ≡ true → other.bits ≤ row.bits
+  pub earliest : (k : ℕ) (other : Route) → k < r → slice_get rows k ≡ Some other
+      → spec.leads_to addr (route_view other) ≡ true → other.bits < row.bits
 
 abbrev pub Best : List Route → ℕ → ℕ → Option ℕ → Type 0
-Best rows addr n None = (k : ℕ) (other : Route) → k < n → slice_get rows k ≡ Some other → spec.leads_to addr (route_view other) ≡ false
+Best rows addr n None =
+    (k : ℕ) (other : Route) → k < n → slice_get rows k ≡ Some other → spec.leads_to addr (route_view other) ≡ false
 Best rows addr n (Some r) = IsBest rows addr n r
 
 -- the fault of row r behind these rows, where it has one

@@ -1,13 +1,16 @@
 //! A table of cells over the ranges of addresses.
 
-ghost use Rattle.std.specs.Prelude.{◌≡◌, ℕ, ◌≤◌, ◌<◌, ◌+◌, ◌-◌, ◌*◌, ◌/◌, ◌^◌, List, [], ◌∷◌, ◌++◌, length, Some, None, IfSome, IfOk, OnOk};
-ghost use Rattle.std.specs.List.{slice_get};
+ghost use Rattle.std.specs.Prelude.{◌≡◌, ◌≢◌, ℕ, ◌≤◌, ◌<◌, ◌+◌, ◌-◌, ◌*◌, ◌/◌, ◌%◌, ◌^◌, List, [], ◌∷◌, ◌++◌, length};
+ghost use Rattle.std.specs.Prelude.{Some, None, IfSome, IfOk, OnOk};
+ghost use Rattle.std.specs.List.{slice_get, slice_index};
 ghost use Rattle.lpm_fw.specs.Cells as spec;
+ghost use Rattle.lpm_fw.specs.Parts.{rows_in};
 ghost use Rattle.lpm_fw.specs.Scan.{AreShort};
 ghost use Rattle.lpm_fw.specs.declared.routes.Route.{Route};
+ghost use Rattle.lpm_fw.specs.declared.cells.Unbuilt.TheVariants.{NoMemory as OutOfMemory};
 
+use crate::parts::Parts;
 use crate::routes::Route;
-use crate::side::Side;
 use brick_base::NoMemory;
 use std::alloc::Global;
 
@@ -37,30 +40,15 @@ pub(crate) fn look_up(rows: &[Route], root: &[u16], blocks: &[[u16; 256]], addr:
     row_of(blocks[(cell - ROWS - 1) as usize][addr as usize % 256])
 }
 
-/// The longest row of those that contain a range of addresses, and the rows that lie inside it.
-#[derive(Drop)]
-struct Choice {
-    best: Option<u16>,
-    inside: Vec<u16>,
-}
-
-/// Where a row's prefix lies, seen from the range `a` of 2 ^ `w` addresses.
-fn side_of(row: Route, w: u32, a: u32) -> Side
-    requires bits { row.bits ≤ 32 }
-    requires w { w ≤ 32 }
-    ensures { spec.IsSideOf row w a result }
+/// The cell of a row, where there is one.
+fn row_cell(best: Option<u16>) -> u16
+    requires { IfSome best (λ r. r < 4096) }
+    ensures row { spec.row_of result ≡ best }
+    ensures few { result < 4097 }
 {
-    let free = 32 - row.bits as u32;
-    if free < w {
-        if row.to as u64 >> w == a as u64 {
-            Side::Inside
-        } else {
-            Side::Apart
-        }
-    } else if row.to as u64 >> free == a as u64 >> (free - w) {
-        Side::Around
-    } else {
-        Side::Apart
+    match best {
+        Some(r) => r + 1,
+        None => 0,
     }
 }
 
@@ -68,9 +56,8 @@ fn side_of(row: Route, w: u32, a: u32) -> Side
 fn longer(rows: &[Route], best: Option<u16>, k: u16) -> Option<u16>
     requires k { k < length rows.now }
     requires best { IfSome best (λ r. r < length rows.now) }
-    ensures kept { (w a : ℕ) → spec.BestLeads rows.now w a best → ((row : Route) → slice_get rows.now k ≡ Some row → spec.LeadsToAll w a row) → spec.BestLeads rows.now w a result }
-    ensures long { (bits : ℕ) → spec.IsAsLong rows.now bits best → spec.IsAsLong rows.now bits result }
-    ensures row { (row : Route) → slice_get rows.now k ≡ Some row → spec.IsAsLong rows.now row.bits result }
+    ensures within { IfSome result (λ r. r < length rows.now) }
+    ensures longer { spec.IsLonger rows.now best k result }
 {
     match best {
         Some(b) => {
@@ -84,59 +71,103 @@ fn longer(rows: &[Route], best: Option<u16>, k: u16) -> Option<u16>
     }
 }
 
-/// Puts a row on its side of a range.
-fn sort_in(rows: &[Route], choice: &mut Choice, k: u16, w: u32, a: u32) -> Result<(), NoMemory>
-    requires short { AreShort rows.now }
-    requires w { w ≤ 32 }
+/// The cells of the 256 parts of a range, and the rows that lie inside the parts.
+#[derive(Drop)]
+struct Divided {
+    cells: [u16; 256],
+    inside: Parts,
+}
+
+/// Puts a row into the cells of the parts that it contains: those whose numbers begin with the bits of the number of
+/// `part` that are above the last `free` of eight.
+fn cover(rows: &[Route], cells: &mut [u16; 256], part: usize, free: u32, k: u16)
+    requires few { length rows.now ≤ 4096 }
+    requires part { part < 256 }
+    requires free { free ≤ 8 }
     requires k { k < length rows.now }
-    requires best { IfSome choice.old.best (λ r. r < length rows.now) }
-    ensures sorted { (list : List ℕ) (from : ℕ) → slice_get list from ≡ Some k → spec.AreSorted rows.now w a list from choice.old.inside.items choice.old.best
-        → OnOk result (spec.AreSorted rows.now w a list (from + 1) choice.new.inside.items choice.new.best) }
-    ensures address { w ≡ 0 → choice.new.inside.items ≡ choice.old.inside.items }
+    requires rows { spec.HaveRows rows.now cells.old }
+    ensures rows { spec.HaveRows rows.now cells.new }
+    ensures here { (i : ℕ) → i < 256 → i / 2 ^ free ≡ part / 2 ^ free
+        → spec.IsLonger rows.now (spec.row_of (slice_index cells.old i)) k (spec.row_of (slice_index cells.new i)) }
+    ensures others { (i : ℕ) → i < 256 → i / 2 ^ free ≢ part / 2 ^ free
+        → slice_index cells.new i ≡ slice_index cells.old i }
 {
-    match side_of(rows[k as usize], w, a) {
-        Side::Inside => choice.inside.push(k)?,
-        Side::Around => choice.best = longer(rows, choice.best, k),
-        Side::Apart => {}
+    let size = 1usize << free;
+    let first = part / size * size;
+    for i in first..first + size {
+        cells[i] = row_cell(longer(rows, row_of(cells[i]), k));
     }
+}
+
+/// The part of 2 ^ `w` addresses, of the 256 of a range, that has the row's first address.
+fn part_of(row: Route, w: u32) -> usize
+    requires { w ≤ 24 }
+    ensures part { result ≡ row.to / 2 ^ w % 256 }
+    ensures address { row.to < 2 ^ 32 }
+{
+    (row.to >> w) as usize % 256
+}
+
+/// Puts a row into the cells of the parts of 2 ^ `w` addresses that it contains, or among the rows inside a part.
+fn place(
+    alloc: Global,
+    rows: &[Route],
+    divided: &mut Divided,
+    k: u16,
+    w: u32,
+) -> Result<(), NoMemory>
+    requires few { length rows.now ≤ 4096 }
+    requires short { AreShort rows.now }
+    requires w { w ≤ 24 }
+    requires k { k < length rows.now }
+    requires small { (row : Route) → slice_get rows.now k ≡ Some row → 32 ≤ row.bits + (w + 8) }
+    requires rows { spec.HaveRows rows.now divided.old.cells }
+    ensures rows { spec.HaveRows rows.now divided.new.cells }
+    ensures address { w ≡ 0 → divided.new.inside ≡ divided.old.inside }
+    ensures placed { (a : ℕ) (list : List ℕ) (from : ℕ) → slice_get list from ≡ Some k
+        → spec.IsInside rows.now (w + 8) a k
+        → spec.AreDivided rows.now w a list from divided.old.cells divided.old.inside
+        → OnOk result (spec.AreDivided rows.now w a list (from + 1) divided.new.cells divided.new.inside) }
+{
+    let row = rows[k as usize];
+    let free = 32 - row.bits as u32;
+    let part = part_of(row, w);
+    if free >= w {
+        cover(rows, &mut divided.cells, part, free - w, k);
+        return Ok(());
+    }
+    divided.inside.push(alloc, part, k)?;
     Ok(())
 }
 
-/// What one of the 256 parts of a range has of the choice for the range.
+/// The cells of the 256 parts of 2 ^ `w` addresses of a range, by the rows that lie inside the range and the best one
+/// round it. Each row is looked at once.
 fn divide(
     alloc: Global,
     rows: &[Route],
     best: Option<u16>,
     inside: &[u16],
     w: u32,
-    a: u32,
-) -> Result<Choice, NoMemory>
+) -> Result<Divided, NoMemory>
+    requires few { length rows.now ≤ 4096 }
     requires short { AreShort rows.now }
     requires w { w ≤ 24 }
-    requires choice { spec.AreSorted rows.now (w + 8) (a / 256) [] 0 inside.now best }
-    ensures sorted { IfOk result (λ part. spec.AreSorted rows.now w a [] 0 part.inside.items part.best) }
-    ensures address { w ≡ 0 → IfOk result (λ part. part.inside.items ≡ []) }
+    requires best { IfSome best (λ r. r < length rows.now) }
+    requires inside { (j k : ℕ) → slice_get inside.now j ≡ Some k
+        → (k < length rows.now) × ((row : Route) → slice_get rows.now k ≡ Some row → 32 ≤ row.bits + (w + 8)) }
+    ensures rows { IfOk result (λ divided. spec.HaveRows rows.now divided.cells) }
+    ensures address { w ≡ 0 → IfOk result (λ divided. (part : ℕ) → rows_in divided.inside part ≡ []) }
+    ensures divided { (a : ℕ) → spec.AreSorted rows.now (w + 8) a [] 0 inside.now best
+        → IfOk result (λ divided. spec.AreDivided rows.now w a [] 0 divided.cells divided.inside) }
 {
-    let mut part = Choice {
-        best,
-        inside: Vec::new(alloc),
+    let mut divided = Divided {
+        cells: [row_cell(best); 256],
+        inside: Parts::new(alloc),
     };
     for j in 0..inside.len() {
-        sort_in(rows, &mut part, inside[j], w, a)?;
+        place(alloc, rows, &mut divided, inside[j], w)?;
     }
-    Ok(part)
-}
-
-/// The cell of a row, where there is one.
-fn row_cell(best: Option<u16>) -> u16
-    requires { IfSome best (λ r. r < 4096) }
-    ensures row { spec.row_of result ≡ best }
-    ensures few { result < 4097 }
-{
-    match best {
-        Some(r) => r + 1,
-        None => 0,
-    }
+    Ok(divided)
 }
 
 /// Why a table has no cells.
@@ -148,6 +179,8 @@ pub(crate) enum Unbuilt {
 }
 
 impl From<NoMemory> for Unbuilt {
+    ghost from_gives = { λ _ e. e ≡ OutOfMemory };
+
     fn from(_error: NoMemory) -> Unbuilt {
         Unbuilt::NoMemory
     }
@@ -169,8 +202,9 @@ fn put_block(blocks: &mut Vec<[u16; 256]>, block: [u16; 256]) -> Result<u16, Unb
     }
 }
 
-/// The cell of the range `a` of 256 ^ `level` addresses. The blocks that it needs come behind the others.
-fn cell_at(
+/// The cells of the 256 parts of 256 ^ `level` addresses of the range `a`. The blocks that they need come behind the
+/// others.
+fn cells_of(
     alloc: Global,
     rows: &[Route],
     best: Option<u16>,
@@ -178,72 +212,43 @@ fn cell_at(
     level: u32,
     a: u32,
     blocks: &mut Vec<[u16; 256]>,
-) -> Result<u16, Unbuilt>
+) -> Result<[u16; 256], Unbuilt>
     requires few { length rows.now ≤ 4096 }
     requires short { AreShort rows.now }
     requires level { level ≤ 2 }
-    requires a { a < 2 ^ (32 - 8 * level) }
-    requires choice { spec.AreSorted rows.now (8 * level) a [] 0 inside.now best }
-    requires address { level ≡ 0 → inside.now ≡ [] }
+    requires a { a < 2 ^ (24 - 8 * level) }
+    requires sorted { spec.AreSorted rows.now (8 * level + 8) a [] 0 inside.now best }
     ensures more { spec.AreMore blocks.old.items blocks.new.items }
-    ensures cell { IfOk result (λ cell. spec.IsCell rows.now blocks.new.items level a cell) }
+    ensures long { IfOk result (λ cells. length cells ≡ 256) }
+    ensures cells { IfOk result (λ cells. spec.AreParts rows.now blocks.new.items level a cells 256) }
 {
-    if inside.is_empty() {
-        return Ok(row_cell(best));
-    }
-    let mut block = [0; 256];
+    let divided = divide(alloc, rows, best, inside, 8 * level)?;
+    let mut cells = divided.cells;
     for i in 0..256 {
-        let part = divide(
+        let inside = divided.inside.get(i);
+        if inside.is_empty() {
+            continue;
+        }
+        let best = row_of(cells[i]);
+        let block = cells_of(
             alloc,
             rows,
             best,
             inside,
-            8 * (level - 1),
-            a * 256 + i as u32,
-        )?;
-        block[i] = cell_at(
-            alloc,
-            rows,
-            part.best,
-            &part.inside,
             level - 1,
             a * 256 + i as u32,
             blocks,
         )?;
+        cells[i] = put_block(blocks, block)?;
     }
-    put_block(blocks, block)
+    Ok(cells)
 }
 
-/// Puts a cell behind the others.
-fn put_cell(root: &mut Vec<u16>, cell: u16) -> Result<(), NoMemory>
-    ensures { OnOk result (root.new.items ≡ root.old.items ++ cell ∷ []) }
+/// Puts the cells of a range behind the others.
+fn put_cells(root: &mut Vec<u16>, cells: &[u16; 256]) -> Result<(), NoMemory>
+    ensures { OnOk result (root.new.items ≡ root.old.items ++ cells.now) }
 {
-    root.push(cell)?;
-    Ok(())
-}
-
-/// The cells of the 256 ranges of 65,536 addresses of which `high` is the first byte.
-fn fill_high(
-    alloc: Global,
-    rows: &[Route],
-    part: &Choice,
-    high: u32,
-    root: &mut Vec<u16>,
-    blocks: &mut Vec<[u16; 256]>,
-) -> Result<(), Unbuilt>
-    requires few { length rows.now ≤ 4096 }
-    requires short { AreShort rows.now }
-    requires high { high < 256 }
-    requires part { spec.AreSorted rows.now 24 high [] 0 part.now.inside.items part.now.best }
-    requires root { spec.AreCells rows.now root.old.items blocks.old.items (high * 256) }
-    ensures { OnOk result (spec.AreCells rows.now root.new.items blocks.new.items (high * 256 + 256)) }
-{
-    for low in 0..256 {
-        let a = high * 256 + low;
-        let part = divide(alloc, rows, part.best, &part.inside, 16, a)?;
-        let cell = cell_at(alloc, rows, part.best, &part.inside, 2, a, blocks)?;
-        put_cell(root, cell)?;
-    }
+    root.extend_from_slice(cells)?;
     Ok(())
 }
 
@@ -255,7 +260,7 @@ fn every(alloc: Global, rows: &[Route]) -> Result<Vec<u16>, NoMemory>
 {
     let mut every = Vec::new(alloc);
     for k in 0..rows.len() {
-        put_cell(&mut every, k as u16)?;
+        every.push(k as u16)?;
     }
     Ok(every)
 }
@@ -273,9 +278,12 @@ pub(crate) fn fill(
     ensures { OnOk result (spec.AreCells rows.now root.new.items blocks.new.items 65536) }
 {
     let every = every(alloc, rows)?;
+    let divided = divide(alloc, rows, None, &every, 24)?;
     for high in 0..256 {
-        let part = divide(alloc, rows, None, &every, 24, high)?;
-        fill_high(alloc, rows, &part, high, root, blocks)?;
+        let best = row_of(divided.cells[high]);
+        let inside = divided.inside.get(high);
+        let cells = cells_of(alloc, rows, best, inside, 2, high as u32, blocks)?;
+        put_cells(root, &cells)?;
     }
     Ok(())
 }

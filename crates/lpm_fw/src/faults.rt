@@ -47,9 +47,13 @@ fn fault_at(firsts: &BTreeMap<Prefix, u32>, row: Route, r: u32) -> Option<RouteF
 /// Row `r` comes behind the rows of which these are the prefixes, unless something is wrong with it.
 fn add_row(firsts: &mut BTreeMap<Prefix, u32>, row: Route, r: u32) -> Result<(), RouteFault>
     requires { row.bits ≤ 32 }
-    ensures right { (before : List Route) → AreFirsts before firsts.old → OnOk result (spec.fault_at (map route_view before) (route_view row) r ≡ None) }
-    ensures firsts { (before : List Route) → AreFirsts before firsts.old → length before ≡ r → OnOk result (AreFirsts (before ++ row ∷ []) firsts.new) }
-    ensures fault { (before : List Route) → AreFirsts before firsts.old → IfErr result (λ fault. IfSome (fault_view fault) (λ f. spec.fault_at (map route_view before) (route_view row) r ≡ Some f)) }
+    ensures right { (before : List Route) → AreFirsts before firsts.old
+        → OnOk result (spec.fault_at (map route_view before) (route_view row) r ≡ None) }
+    ensures firsts { (before : List Route) → AreFirsts before firsts.old → length before ≡ r
+        → OnOk result (AreFirsts (before ++ row ∷ []) firsts.new) }
+    ensures fault { (before : List Route) → AreFirsts before firsts.old
+        → IfErr result (λ fault. IfSome (fault_view fault)
+        (λ f. spec.fault_at (map route_view before) (route_view row) r ≡ Some f)) }
 {
     if let Some(fault) = fault_at(firsts, row, r) {
         return Err(fault);
@@ -60,8 +64,8 @@ fn add_row(firsts: &mut BTreeMap<Prefix, u32>, row: Route, r: u32) -> Result<(),
     }
 }
 
-/// Ok where no row has a fault, and else the first fault in the order of the rows. Each row is looked up once among the prefixes of
-/// the rows before it.
+/// Ok where no row has a fault, and else the first fault in the order of the rows. Each row is looked up once among the
+/// prefixes of the rows before it.
 pub(crate) fn check(alloc: Global, rows: &[Route]) -> Result<(), RouteFault>
     requires few { length rows.now ≤ 4096 }
     requires short { AreShort rows.now }

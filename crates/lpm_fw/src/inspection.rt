@@ -16,7 +16,8 @@ use tcp_udp::Tuple;
 
 /// What the rules alone say of a frame. One without the IPv4 layer is allowed.
 fn verdict_of(rules: &Rules, t: &Option<Tuple>) -> Verdict
-    ensures { spec.is_allow (verdict_view result) ≡ spec.allows_tuple rules.now.rows rules.now.default (option_map tuple_view t.now) }
+    ensures { spec.is_allow (verdict_view result)
+        ≡ spec.allows_tuple rules.now.rows rules.now.default (option_map tuple_view t.now) }
 {
     match t {
         None => Verdict::Allow,
@@ -32,8 +33,10 @@ fn inspect_forward(
     flow: u32,
     t: &Option<Tuple>,
 ) -> Result<Verdict, NoMemory>
-    ensures verdict { IfOk result (λ verdict. spec.is_allow (verdict_view verdict) ≡ spec.allows_tuple rules.now.rows rules.now.default (option_map tuple_view t.now)) }
-    ensures ok { IfOk result (λ verdict. flows.new ≡ (if established && spec.is_allow (verdict_view verdict) then set.insert flows.old flow else flows.old)) }
+    ensures verdict { IfOk result (λ verdict. spec.is_allow (verdict_view verdict)
+        ≡ spec.allows_tuple rules.now.rows rules.now.default (option_map tuple_view t.now)) }
+    ensures ok { IfOk result (λ verdict. flows.new
+        ≡ (if established && spec.is_allow (verdict_view verdict) then set.insert flows.old flow else flows.old)) }
     ensures err { OnErr result (flows.new ≡ flows.old) }
     ensures off { established ≡ false → IsOk result }
 {
@@ -44,10 +47,10 @@ fn inspect_forward(
     Ok(verdict)
 }
 
-/// Decides the next item of a flow, by its class and the five-tuple that its frame has there. The rules decide; but where
-/// `established` is on, an item that goes back is allowed if one of its flow that went forward was allowed before. The set keeps
-/// those flows: it begins empty, and each stage has its own. Without `established` nothing is kept and no memory is needed.
-/// Without memory the set stays as it was, and the item is not decided.
+/// Decides the next item of a flow, by its class and the five-tuple that its frame has there. The rules decide; but
+/// where `established` is on, an item that goes back is allowed if one of its flow that went forward was allowed
+/// before. The set keeps those flows: it begins empty, and each stage has its own. Without `established` nothing is
+/// kept and no memory is needed. Without memory the set stays as it was, and the item is not decided.
 pub fn inspect(
     rules: &Rules,
     established: bool,
@@ -55,9 +58,12 @@ pub fn inspect(
     class: &Class,
     t: &Option<Tuple>,
 ) -> Result<Verdict, NoMemory>
-    ensures verdict { (before : ℕ → List FlowItem) (x : FlowItem) → StandsFor established rules.now flows.old before → IsItem class.now t.now x
-        → IfOk result (λ verdict. (stage_of established rules.now).on_item (before class.now.flow) x ≡ left_by x (outcome_by (verdict_view verdict) x.item)) }
-    ensures kept { (before : ℕ → List FlowItem) (x : FlowItem) → StandsFor established rules.now flows.old before → IsItem class.now t.now x
+    ensures verdict { (before : ℕ → List FlowItem) (x : FlowItem) → StandsFor established rules.now flows.old before
+        → IsItem class.now t.now x
+        → IfOk result (λ verdict. (stage_of established rules.now).on_item (before class.now.flow) x
+        ≡ left_by x (outcome_by (verdict_view verdict) x.item)) }
+    ensures kept { (before : ℕ → List FlowItem) (x : FlowItem) → StandsFor established rules.now flows.old before
+        → IsItem class.now t.now x
         → OnOk result (StandsFor established rules.now flows.new (with_item before class.now.flow x)) }
     ensures err { OnErr result (flows.new ≡ flows.old) }
     ensures off { established ≡ false → IsOk result }

@@ -12,11 +12,11 @@ mod established;
 mod faults;
 mod inspection;
 mod laws;
+mod parts;
 mod prefix;
 mod routes;
 mod rules;
 mod sent;
-mod side;
 #[cfg(test)]
 mod tests;
 

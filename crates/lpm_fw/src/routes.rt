@@ -1,6 +1,7 @@
 //! Routes.
 
-ghost use Rattle.std.specs.Prelude.{◌≡◌, ◌↔◌, IsTrue, ℕ, ◌≤◌, ◌<◌, ◌+◌, ◌^◌, ◌≢◌, length, Option, Some, None, IfOk, OnOk, IfErr, IfSome, MatchOption, take, map};
+ghost use Rattle.std.specs.Prelude.{◌≡◌, ◌↔◌, IsTrue, ℕ, ◌≤◌, ◌<◌, ◌+◌, ◌^◌, ◌≢◌, length, Option, Some, None, IfOk};
+ghost use Rattle.std.specs.Prelude.{OnOk, IfErr, IfSome, MatchOption, take, map};
 ghost use Rattle.std.specs.List.{slice_get, position};
 ghost use Rattle.brick_spec.specs.Route as spec;
 ghost use Rattle.lpm_fw.specs.RouteView.{route_view, fault_view};
@@ -70,14 +71,15 @@ impl fmt::Debug for Routes {
 }
 
 impl Routes {
-    /// The table of these rows, or the first fault: rows are tried in their order, each for bits past its prefix and then for the
-    /// earliest row of the same prefix.
+    /// The table of these rows, or the first fault: rows are tried in their order, each for bits past its prefix and
+    /// then for the earliest row of the same prefix.
     pub fn build(alloc: Global, rows: Vec<Route>) -> Result<Routes, RouteFault>
         requires few { length rows.items ≤ 4096 }
         requires short { AreShort rows.items }
         ensures ok { IfOk result (λ routes. routes ≡ rows.items) }
         ensures right { OnOk result (spec.AreRight (map route_view rows.items)) }
-        ensures fault { IfErr result (λ fault. fault ≢ NoMemory → IfSome (fault_view fault) (spec.IsFirstFault (map route_view rows.items))) }
+        ensures fault { IfErr result (λ fault. fault ≢ NoMemory
+            → IfSome (fault_view fault) (spec.IsFirstFault (map route_view rows.items))) }
     {
         check(alloc, &rows)?;
         with_cells(alloc, rows)

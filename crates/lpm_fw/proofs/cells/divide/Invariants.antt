@@ -1,7 +1,9 @@
--- the rows so far are sorted
-use Rattle.std.proofs.Common.{◌≡◌, [], ℕ, List}
-use Rattle.lpm_fw.specs.Cells.{AreSorted}
+-- the rows so far are in the cells or inside the parts
+use Rattle.std.proofs.Common.{◌≡◌, ◌+◌, [], ℕ}
+use Rattle.lpm_fw.specs.Cells.{AreSorted, AreDivided, HaveRows}
+use Rattle.lpm_fw.specs.Parts.{rows_in}
 use Rattle.lpm_fw.proofs.cells.divide.Given as goal
 
 abbrev pub invariant-loop-j : goal.invariant-loop-j
-invariant-loop-j l = AreSorted l.rows l.w l.a l.inside l.j l.part.inside.items l.part.best × (l.w ≡ 0 → l.part.inside.items ≡ [])
+invariant-loop-j l = HaveRows l.rows l.divided.cells × (l.w ≡ 0 → (part : ℕ) → rows_in l.divided.inside part ≡ [])
+    × ((a : ℕ) → AreSorted l.rows (l.w + 8) a [] 0 l.inside l.fn.best → AreDivided l.rows l.w a l.inside l.j l.divided.cells l.divided.inside)
