@@ -42,7 +42,7 @@ pub fn generate(alloc: Global, number: u64, count: u32) -> Result<Vec<u8>, NoMem
     for k in 0..count {
         let draw = sequence.draw();
         buffer = write_frame(&mut frame, buffer, draw, k)?;
-        put_record(&mut writer, k, &frame)?;
+        put_record(&mut writer, k, frame.as_slice())?;
     }
     Ok(writer.into_bytes())
 }

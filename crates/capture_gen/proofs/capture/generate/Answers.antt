@@ -1,8 +1,9 @@
-use Rattle.std.proofs.Common.{◌≡◌, ◌∙◌, ◌/◌, ◌^◌, ◌<◌, ℕ, List, ap, sym, subst, arith, lit<}
+use Rattle.std.proofs.Common.{◌≡◌, ◌∙◌, ◌++◌, ◌/◌, ◌^◌, ◌<◌, ℕ, List, ap, sym, subst, arith, lit<}
 use Rattle.std.proofs.lemmas.Nat.{mod_below}
-use Rattle.brick_spec.specs.Capture.{IsReadable}
+use Rattle.brick_spec.specs.Bytes.{Little}
+use Rattle.brick_spec.specs.Capture.{IsReadable, record_text}
 use Rattle.run_spec.specs.Generated.{generated_capture}
-use Rattle.capture_gen.specs.Contents.{generated_contents}
+use Rattle.capture_gen.specs.Contents.{entry_of_frame, generated_contents}
 use Rattle.capture_gen.proofs.Readable.{text_more, generated_readable}
 use Rattle.capture_gen.proofs.Steps.{drawn, drawn_frame, tcp_among_few}
 use Rattle.capture_gen.proofs.capture.generate.Goals as goal
@@ -23,8 +24,10 @@ loop-k-preserved c =
     c.draw-draw.ensures.number c.draw-draw.ensures.kind c.draw-draw.ensures.host c.draw-draw.ensures.earlier c.draw-draw.ensures.counts in
     let made = c.in_ok-buffer-2.ensures.frame ∙ drawn_frame c.args.number c.loop-k.k c.draw-draw.new.self.number c.draw-draw.new.self.tcp_counts
     c.draw-draw.result.kind c.draw-draw.result.host c.draw-draw.result.earlier d in
+    let put : c.put_record.new.writer ≡ c.loop-k.writer ++ record_text Little (entry_of_frame c.loop-k.k c.write_frame.new.frame.items) =
+    c.in_ok-put_record.ensures ∙ ap (λ (f : List ℕ). c.loop-k.writer ++ record_text Little (entry_of_frame c.loop-k.k f)) c.as_slice.ensures.value in
     record {
-      text = text_more c.args.number c.loop-k.k c.loop-k.writer c.put_record.new.writer c.write_frame.new.frame.items c.loop-k.invariant.text made c.in_ok-frame.ensures;
+      text = text_more c.args.number c.loop-k.k c.loop-k.writer c.put_record.new.writer c.write_frame.new.frame.items c.loop-k.invariant.text made put;
       at = d.at;
       room = c.in_ok-buffer-2.ensures.room ∙ c.loop-k.invariant.room;
     }
