@@ -5,7 +5,8 @@ use Rattle.chain_spec.specs.ChainSet.{Chain, DryWait, UnparsedPass, Ttl, Window,
 use Rattle.chain_spec.specs.ChainWalk.{read_chains}
 use Rattle.run_spec.specs.Generated.{capture_name, chains_name, generated_chains}
 
--- One tenant, whose TCP records from or to port 80 leave in windows of 512 bytes, and all others as they are, but for the time to live.
+-- One tenant, whose TCP records from or to port 80 leave in windows of 512 bytes, and all others as they are, but for
+-- the time to live.
 abbrev pub generated_chain : List ℕ → Chain
 generated_chain out = record {
   name = codes "gen";
@@ -29,4 +30,5 @@ generated_chain out = record {
 }
 
 abbrev pub GeneratedChainsAreAccepted : Type 0
-GeneratedChainsAreAccepted = (out : List ℕ) → IsTrue (is_plain_folder out) → read_chains (chains_name out) out (generated_chains out) ≡ Ok (generated_chain out ∷ [])
+GeneratedChainsAreAccepted = (out : List ℕ) → IsTrue (is_plain_folder out)
+    → read_chains (chains_name out) out (generated_chains out) ≡ Ok (generated_chain out ∷ [])

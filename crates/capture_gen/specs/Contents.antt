@@ -5,7 +5,12 @@ use Rattle.run_spec.specs.Generated.{generated_entries}
 
 -- record k, with this frame
 abbrev pub entry_of_frame : ℕ → List ℕ → Entry
-entry_of_frame k frame = record { seconds = k / 1000; fraction = k % 1000 * 1000; original = length frame; frame = frame }
+entry_of_frame k frame = record {
+  seconds = k / 1000;
+  fraction = k % 1000 * 1000;
+  original = length frame;
+  frame = frame;
+}
 
 -- so many records, in microseconds
 abbrev pub generated_contents : ℕ → ℕ → Contents

@@ -28,8 +28,8 @@ fn put_record(writer: &mut Writer, k: u32, frame: &[u8]) -> Result<(), NoMemory>
     })
 }
 
-/// The generated capture of `count` records, in the form in which captures are written, with microseconds. The records are made by a
-/// sequence of numbers that begins with `number`. The work is linear in the bytes.
+/// The generated capture of `count` records, in the form in which captures are written, with microseconds. The records
+/// are made by a sequence of numbers that begins with `number`. The work is linear in the bytes.
 pub fn generate(alloc: Global, number: u64, count: u32) -> Result<Vec<u8>, NoMemory>
     requires { count ≤ 20000 }
     ensures capture { IfOk result (λ bytes. bytes.items ≡ generated_capture number count) }

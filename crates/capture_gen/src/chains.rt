@@ -31,7 +31,8 @@ pub fn chains_name(alloc: Global, out: &str) -> Result<String, NoMemory>
     Ok(name)
 }
 
-/// The chain file of the generated capture in the folder `out`: one tenant, whose TCP records to port 80 are put into windows.
+/// The chain file of the generated capture in the folder `out`: one tenant, whose TCP records to port 80 are put into
+/// windows.
 pub fn generated_chain_file(alloc: Global, out: &str) -> Result<String, NoMemory>
     ensures { IfOk result (λ s. string_bytes s ≡ spec.generated_chains out.now) }
 {

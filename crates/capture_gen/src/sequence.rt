@@ -1,6 +1,7 @@
 //! The sequence of numbers that tells what each record is.
 
-ghost use Rattle.std.specs.Prelude.{◌≡◌, ℕ, ◌+◌, ◌/◌, ◌%◌, ◌^◌, ◌<◌, nat_le, slice_index, slice_set, if◌then◌else◌, replicate};
+ghost use Rattle.std.specs.Prelude.{◌≡◌, ℕ, ◌+◌, ◌/◌, ◌%◌, ◌^◌, ◌<◌, nat_le, slice_index, slice_set, if◌then◌else◌};
+ghost use Rattle.std.specs.Prelude.{replicate};
 ghost use Rattle.run_spec.specs.Generated.{next_number};
 ghost use Rattle.capture_gen.specs.Sequence.{kind_of};
 
@@ -74,7 +75,9 @@ impl Sequence {
         ensures kind { result.kind ≡ kind_of (self.new.number / 2 ^ 32 % 20) }
         ensures host { result.host ≡ self.new.number / 2 ^ 32 / 256 % 8 }
         ensures earlier { result.earlier ≡ slice_index self.old.tcp_counts result.host }
-        ensures counts { self.new.tcp_counts ≡ (if nat_le 10 (self.new.number / 2 ^ 32 % 20) then slice_set self.old.tcp_counts result.host (result.earlier + 1) else self.old.tcp_counts) }
+        ensures counts { self.new.tcp_counts
+            ≡ (if nat_le 10 (self.new.number / 2 ^ 32 % 20)
+            then slice_set self.old.tcp_counts result.host (result.earlier + 1) else self.old.tcp_counts) }
     {
         self.number = next_number(self.number);
         let high = self.number / 4_294_967_296;

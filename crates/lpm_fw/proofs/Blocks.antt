@@ -2,7 +2,6 @@
 use Rattle.std.proofs.Common.{◌≡◌, ◌∙◌, ℕ, zero, suc, ◌+◌, ◌-◌, ◌*◌, ◌^◌, ◌<◌, ◌≤◌, Bool, true, false, MatchBool, nat_lt, refl, sym, ap, arith, subst, List, [], ◌∷◌, ◌++◌, ◌==◌, Some, None, IfSome, length, length-append, get_or, inl, inr}
 use Rattle.std.specs.List.{slice_get, slice_index, slice_set}
 use Rattle.std.proofs.lemmas.List.{get_or-set_other, get_or_append_left, get_or-append_right}
-use Rattle.std.proofs.Math.Nat.{pow-le-pow_right}
 use Rattle.std.proofs.lemmas.Grind.{get_or-set_at}
 use Rattle.std.proofs.lemmas.Bool.{cases_lt, eqb-true}
 use Rattle.std.proofs.lemmas.Bool.Decides.{nat_tests}
@@ -50,19 +49,6 @@ part_more rows old new level a block n cell long within more parts is i less =
           let same : slice_index (slice_set block n cell) i ≡ cell = get_or-set_at block n i cell 0 (sym e) (omega arith) in
           subst (IsCell rows new level (a * 256 + i)) (sym same) (subst (λ (k : ℕ). IsCell rows new level (a * 256 + k) cell) e is)
     ]
-
--- a part of a range, by its number
-pub room : (level a : ℕ) → level ≤ 2 → a < 2 ^ (24 - 8 * level) → a * 256 + 255 < 2 ^ (32 - 8 * level)
-room zero a few less = let e : a < 16777216 = less in let goal : a * 256 + 255 < 4294967296 = omega arith in goal
-room (suc zero) a few less = let e : a < 65536 = less in let goal : a * 256 + 255 < 16777216 = omega arith in goal
-room (suc (suc zero)) a few less = let e : a < 256 = less in let goal : a * 256 + 255 < 65536 = omega arith in goal
-room (suc (suc (suc level))) a few less = absurd (omega arith)
-
-pub room_32 : (level a : ℕ) → level ≤ 2 → a < 2 ^ (24 - 8 * level) → a * 256 + 255 < 2 ^ 32
-room_32 level a few less =
-    let r = room level a few less in
-    let wide : 2 ^ (32 - 8 * level) ≤ 2 ^ 32 = pow-le-pow_right {n = 2} (omega arith) {i = 32 - 8 * level} {j = 32} (omega arith) in
-    omega arith
 
 pub no_items : (xs : List ℕ) → true ≡ (length xs == 0) → xs ≡ []
 no_items [] e = refl

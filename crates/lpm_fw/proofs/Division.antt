@@ -108,3 +108,18 @@ divided_none rows w a list cell best inside e none sorted i within =
 pub divided_all : (rows : List Route) (w a : ℕ) (list : List ℕ) (from : ℕ) (cells : List ℕ) (inside : List (List ℕ)) → length list ≤ from → AreDivided rows w a list from cells inside
     → AreDivided rows w a [] 0 cells inside
 divided_all rows w a list from cells inside past are i within = sorted_all rows w (a * 256 + i) list from (rows_in inside i) (row_of (slice_index cells i)) past (are i within)
+
+-- the rows inside a part, which is a range of its own
+pub part_sorted : (rows : List Route) (level a i : ℕ) (cells list : List ℕ) (inside : List (List ℕ)) (best : Option ℕ) → 0 < level → i < 256 → list ≡ rows_in inside i → best ≡ row_of (slice_index cells i)
+    → AreDivided rows (8 * level) a [] 0 cells inside → AreSorted rows (8 * (level - 1) + 8) (a * 256 + i) [] 0 list best
+part_sorted rows level a i cells list inside best above within e e' are =
+    let part : 8 * level ≡ 8 * (level - 1) + 8 = omega arith in
+    subst (λ (w : ℕ). AreSorted rows w (a * 256 + i) [] 0 list best) part
+    (subst (λ (xs : List ℕ). AreSorted rows (8 * level) (a * 256 + i) [] 0 xs best) (sym e) (subst (AreSorted rows (8 * level) (a * 256 + i) [] 0 (rows_in inside i)) (sym e') (are i within)))
+
+-- the rows inside a part of all addresses
+pub high_sorted : (rows : List Route) (high : ℕ) (cells list : List ℕ) (inside : List (List ℕ)) (best : Option ℕ) → high < 256 → list ≡ rows_in inside high → best ≡ row_of (slice_index cells high)
+    → AreDivided rows 24 0 [] 0 cells inside → AreSorted rows 24 high [] 0 list best
+high_sorted rows high cells list inside best within e e' are =
+    let first : 0 * 256 + high ≡ high = omega arith in
+    subst (λ (a : ℕ). AreSorted rows 24 a [] 0 list best) first (part_sorted rows 3 0 high cells list inside best (omega arith) within e e' are)

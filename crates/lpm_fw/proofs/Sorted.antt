@@ -110,6 +110,10 @@ pub best_within : (rows : List Route) (w a : ℕ) (best : Option ℕ) → BestLe
 best_within rows w a None leads = tt
 best_within rows w a (Some r) (row, there, _) = slice_get_within rows r row there
 
+pub best_few : (n : ℕ) (best : Option ℕ) → n ≤ 4096 → IfSome best (λ r. r < n) → IfSome best (λ r. r < 4096)
+best_few n None few within = tt
+best_few n (Some r) few within = omega arith
+
 best_of_part : (rows : List Route) (w a : ℕ) (best : Option ℕ) → BestLeads rows (w + 8) (a / 256) best → BestLeads rows w a best
 best_of_part rows w a None leads = tt
 best_of_part rows w a (Some r) (row, there, all) = (row, there, λ addr e. all addr (in_range addr w a e))

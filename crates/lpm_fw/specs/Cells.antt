@@ -1,6 +1,6 @@
 -- A table of cells over the ranges of addresses.
 use Rattle.std.specs.Prelude.{ℕ, ◌≡◌, ◌<◌, ◌≤◌, ◌+◌, ◌-◌, ◌*◌, ◌/◌, ◌^◌, false, true, zero, suc, nat_lt, MatchBool}
-use Rattle.std.specs.Prelude.{Option, Some, None, IfSome, List, length, MatchOption, ◌⊎◌, ◌==◌}
+use Rattle.std.specs.Prelude.{Option, Some, None, IfSome, List, [], length, MatchOption, ◌⊎◌, ◌==◌}
 use Rattle.std.specs.List.{slice_get, slice_index}
 use Rattle.brick_spec.specs.Route as spec
 use Rattle.lpm_fw.specs.declared.routes.Route.{Route}
@@ -85,6 +85,10 @@ pub record AreSorted (rows : List Route) (w a : ℕ) (list : List ℕ) (from : �
   pub all : (addr k : ℕ) (other : Route) → addr / 2 ^ w ≡ a → slice_get rows k ≡ Some other
       → spec.leads_to addr (route_view other) ≡ true
       → IsAmong k list from ⊎ (IsAmong k inside 0 ⊎ IsAsLong rows other.bits best)
+
+-- the rows inside some range of 2 ^ w addresses, and the longest row round it
+abbrev pub AreOfRange : List Route → ℕ → List ℕ → Option ℕ → Type 0
+AreOfRange rows w inside best = (a : ℕ) × AreSorted rows w a [] 0 inside best
 
 -- the longer one of the best row and row k
 pub record IsLonger (rows : List Route) (best : Option ℕ) (k : ℕ) (result : Option ℕ) : Type 0 where

@@ -152,9 +152,7 @@ fn divide(
     requires few { length rows.now ≤ 4096 }
     requires short { AreShort rows.now }
     requires w { w ≤ 24 }
-    requires best { IfSome best (λ r. r < length rows.now) }
-    requires inside { (j k : ℕ) → slice_get inside.now j ≡ Some k
-        → (k < length rows.now) × ((row : Route) → slice_get rows.now k ≡ Some row → 32 ≤ row.bits + (w + 8)) }
+    requires range { spec.AreOfRange rows.now (w + 8) inside.now best }
     ensures rows { IfOk result (λ divided. spec.HaveRows rows.now divided.cells) }
     ensures address { w ≡ 0 → IfOk result (λ divided. (part : ℕ) → rows_in divided.inside part ≡ []) }
     ensures divided { (a : ℕ) → spec.AreSorted rows.now (w + 8) a [] 0 inside.now best
@@ -202,25 +200,23 @@ fn put_block(blocks: &mut Vec<[u16; 256]>, block: [u16; 256]) -> Result<u16, Unb
     }
 }
 
-/// The cells of the 256 parts of 256 ^ `level` addresses of the range `a`. The blocks that they need come behind the
-/// others.
+/// The cells of the 256 parts of 256 ^ `level` addresses of a range. The blocks that they need come behind the others.
 fn cells_of(
     alloc: Global,
     rows: &[Route],
     best: Option<u16>,
     inside: &[u16],
     level: u32,
-    a: u32,
     blocks: &mut Vec<[u16; 256]>,
 ) -> Result<[u16; 256], Unbuilt>
     requires few { length rows.now ≤ 4096 }
     requires short { AreShort rows.now }
     requires level { level ≤ 2 }
-    requires a { a < 2 ^ (24 - 8 * level) }
-    requires sorted { spec.AreSorted rows.now (8 * level + 8) a [] 0 inside.now best }
+    requires range { spec.AreOfRange rows.now (8 * level + 8) inside.now best }
     ensures more { spec.AreMore blocks.old.items blocks.new.items }
     ensures long { IfOk result (λ cells. length cells ≡ 256) }
-    ensures cells { IfOk result (λ cells. spec.AreParts rows.now blocks.new.items level a cells 256) }
+    ensures cells { (a : ℕ) → spec.AreSorted rows.now (8 * level + 8) a [] 0 inside.now best
+        → IfOk result (λ cells. spec.AreParts rows.now blocks.new.items level a cells 256) }
 {
     let divided = divide(alloc, rows, best, inside, 8 * level)?;
     let mut cells = divided.cells;
@@ -230,15 +226,7 @@ fn cells_of(
             continue;
         }
         let best = row_of(cells[i]);
-        let block = cells_of(
-            alloc,
-            rows,
-            best,
-            inside,
-            level - 1,
-            a * 256 + i as u32,
-            blocks,
-        )?;
+        let block = cells_of(alloc, rows, best, inside, level - 1, blocks)?;
         cells[i] = put_block(blocks, block)?;
     }
     Ok(cells)
@@ -282,7 +270,7 @@ pub(crate) fn fill(
     for high in 0..256 {
         let best = row_of(divided.cells[high]);
         let inside = divided.inside.get(high);
-        let cells = cells_of(alloc, rows, best, inside, 2, high as u32, blocks)?;
+        let cells = cells_of(alloc, rows, best, inside, 2, blocks)?;
         put_cells(root, &cells)?;
     }
     Ok(())

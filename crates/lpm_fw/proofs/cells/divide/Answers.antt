@@ -2,21 +2,25 @@ use Rattle.std.proofs.Common.{◌≡◌, ◌∙◌, ◌*◌, ◌+◌, ◌/◌, �
 use Rattle.std.specs.List.{slice_index}
 use Rattle.std.proofs.lemmas.Option.{slice_get-get_or}
 use Rattle.lpm_fw.specs.Cells.{AreSorted, row_of}
+use Rattle.lpm_fw.proofs.Sorted.{best_few, best_within}
 use Rattle.lpm_fw.proofs.Division.{have_none, divided_none, divided_all}
 use Rattle.lpm_fw.proofs.cells.divide.Goals as goal
 
+pub row_cell-requires : goal.row_cell-requires
+row_cell-requires c = best_few (length c.args.rows.now) c.args.best c.requires.few (best_within c.args.rows.now (c.args.w + 8) c.requires.range.0 c.args.best c.requires.range.1.leads)
+
 pub loop-j-init : goal.loop-j-init
 loop-j-init c = (
-  have_none c.args.rows.now c.row_cell.result c.args.best c.row_cell.ensures.row c.requires.best,
+  have_none c.args.rows.now c.row_cell.result c.args.best c.row_cell.ensures.row (best_within c.args.rows.now (c.args.w + 8) c.requires.range.0 c.args.best c.requires.range.1.leads),
   (λ e part. c.new.ensures part),
   λ a sorted. divided_none c.args.rows.now c.args.w a c.args.inside.now c.row_cell.result c.args.best c.new.result c.row_cell.ensures.row c.new.ensures sorted,
 )
 
 pub place-requires-clause-k : goal.place-requires-clause-k
-place-requires-clause-k c = (c.requires.inside c.loop-j.j (get_or c.args.inside.now c.loop-j.j 0) (slice_get-get_or c.args.inside.now c.loop-j.j 0 c.loop-j-test.true)).0
+place-requires-clause-k c = (c.requires.range.1.within c.loop-j.j (get_or c.args.inside.now c.loop-j.j 0) (slice_get-get_or c.args.inside.now c.loop-j.j 0 c.loop-j-test.true)).within
 
 pub place-requires-clause-small : goal.place-requires-clause-small
-place-requires-clause-small c = (c.requires.inside c.loop-j.j (get_or c.args.inside.now c.loop-j.j 0) (slice_get-get_or c.args.inside.now c.loop-j.j 0 c.loop-j-test.true)).1
+place-requires-clause-small c = (c.requires.range.1.within c.loop-j.j (get_or c.args.inside.now c.loop-j.j 0) (slice_get-get_or c.args.inside.now c.loop-j.j 0 c.loop-j-test.true)).few
 
 pub loop-j-preserved : goal.loop-j-preserved
 loop-j-preserved c =
