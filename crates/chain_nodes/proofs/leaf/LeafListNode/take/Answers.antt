@@ -6,10 +6,8 @@ use Rattle.pcap_io.specs.View.{item_view, own_item}
 use Rattle.pcap_io.specs.declared.item.Item.{Item}
 use Rattle.batch_ops.specs.Operator.{work_item}
 use Rattle.packet_owner.specs.Packet.{packet_item}
-use Rattle.flow_spec.specs.Parts.{Parts}
-use Rattle.flow_work.specs.Node.{Went}
 use Rattle.flow_work.specs.Log.{CountsMore}
-use Rattle.flow_work.proofs.Nodes.{list_went, list_stands, list_makes, list_results}
+use Rattle.flow_work.proofs.Nodes.{list_went}
 use Rattle.flow_work.proofs.Logs.{counts_none}
 use Rattle.chain_nodes.specs.declared.leaf.LeafList.{LeafList}
 use Rattle.chain_nodes.proofs.Desks.{same_emptied}
