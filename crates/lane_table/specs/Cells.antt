@@ -1,5 +1,6 @@
 -- One ring of n cells from the word b on. Its entries are numbered from 0, and those before h were taken.
-use Rattle.std.specs.Prelude.{◌≡◌, ◌≢◌, ℕ, ◌+◌, ◌*◌, ◌%◌, ◌<◌, ◌≤◌, Bool, List, [], ◌∷◌, ◌++◌, map, cond, length, slice_index}
+use Rattle.std.specs.Prelude.{◌≡◌, ◌≢◌, ℕ, ◌+◌, ◌*◌, ◌%◌, ◌<◌, ◌≤◌, Bool, List, [], ◌∷◌, ◌++◌, map, cond, length}
+use Rattle.std.specs.Prelude.{slice_index}
 
 -- the word of a slot and a number
 abbrev pub entry_word : ℕ × ℕ → ℕ

@@ -21,7 +21,8 @@ AreEndedFrom id w (x ∷ xs) = IsEndedAt id w x × AreEndedFrom id (w + 1) xs
 abbrev pub logs_of : List WorkerSeat → List (List Pair)
 logs_of xs = map (λ (x : WorkerSeat). x.received.pairs) xs
 
--- the view of the ingest's seat that has taken in those of the first n workers, who took END; received is what each of them received
+-- the view of the ingest's seat that has taken in those of the first n workers, who took END; received is what each of
+-- them received
 pub record HasJoined (workers n : ℕ) (sent received : List (List Pair)) (v : SeatView) : Type 0 where
   pub found : 0 < length v.found
   pub held : v.held ≡ []

@@ -17,7 +17,8 @@ joined v w = record {
   out = v.out;
   claimed = w.claimed ++ v.claimed;
   sent = v.sent;
-  received = map (λ y. cond (works w y) (log_of w.received y) (log_of v.received y)) (numbers_from 0 (length v.received));
+  received =
+      map (λ y. cond (works w y) (log_of w.received y) (log_of v.received y)) (numbers_from 0 (length v.received));
   ends = v.ends;
   ended = map (λ y. cond (works w y) (mark_at w.ended y) (mark_at v.ended y)) (numbers_from 0 (length v.ended));
   found = v.found;

@@ -14,13 +14,31 @@ abbrev pub capped : ℕ → ℕ
 capped n = min n (2 ^ 64 - 1)
 
 abbrev pub lane_of : TableLane → LaneFacts
-lane_of l = record { capture = l.table.shared.key.capture.value; buffers = l.buffers; bytes = l.bytes; shares = l.table.shared.key.shares.value.items }
+lane_of l = record {
+  capture = l.table.shared.key.capture.value;
+  buffers = l.buffers;
+  bytes = l.bytes;
+  shares = l.table.shared.key.shares.value.items;
+}
 
 abbrev pub ingest_of : IngestSeat → IngestFacts
-ingest_of i = record { sent = pairs_in i.sent.items; held = i.held.items; missed = i.missed; finished = i.finished; finds = map capped i.seat.me.0.found }
+ingest_of i = record {
+  sent = pairs_in i.sent.items;
+  held = i.held.items;
+  missed = i.missed;
+  finished = i.finished;
+  finds = map capped i.seat.me.0.found;
+}
 
 abbrev pub worker_of : WorkerSeat → WorkerFacts
-worker_of x = record { place = x.place; received = x.received.pairs; held = x.held.items; ended = x.ended; idle = x.idle; finds = capped (slice_index x.seat.me.0.empty x.place) }
+worker_of x = record {
+  place = x.place;
+  received = x.received.pairs;
+  held = x.held.items;
+  ended = x.ended;
+  idle = x.idle;
+  finds = capped (slice_index x.seat.me.0.empty x.place);
+}
 
 -- how often the seat found the word of buffer i taken, and how often a worker found its next cell empty
 abbrev pub found_by : IngestSeat → ℕ → ℕ

@@ -11,7 +11,8 @@ use Rattle.lane_table.specs.Seats.{worker_of, IsWorkerOf}
 -- each slot has the buffer of its own number, from a on
 abbrev pub IsFullFrom : ℕ → ℕ → List Stored → Type 0
 IsFullFrom bytes a [] = Unit {0}
-IsFullFrom bytes a (x ∷ xs) = ((b : BufferModel) × (x ≡ Free b) × (b.slot ≡ a) × (b.room ≡ bytes)) × IsFullFrom bytes (a + 1) xs
+IsFullFrom bytes a (x ∷ xs) =
+    ((b : BufferModel) × (x ≡ Free b) × (b.slot ≡ a) × (b.room ≡ bytes)) × IsFullFrom bytes (a + 1) xs
 
 -- the first n words are 1, and the others 0
 abbrev pub AreOnes : ℕ → List ℕ → Type 0

@@ -1,5 +1,6 @@
 -- What a send makes of the ingest's view, and a receive of a worker's.
-use Rattle.std.specs.Prelude.{◌≡◌, ◌≢◌, true, ℕ, ◌<◌, length, slice_index, ◌+◌, ◌-◌, ◌/◌, ◌%◌, List, [], ◌∷◌, ◌++◌, slice_set, Some}
+use Rattle.std.specs.Prelude.{◌≡◌, ◌≢◌, true, ℕ, ◌<◌, length, slice_index, ◌+◌, ◌-◌, ◌/◌, ◌%◌, List, [], ◌∷◌, ◌++◌}
+use Rattle.std.specs.Prelude.{slice_set, Some}
 use Rattle.atomic_table.specs.Table.{Me, Step, rest}
 use Rattle.lane_spec.specs.Counts.{times, without}
 use Rattle.lane_spec.specs.Pairs.{Pair}
@@ -88,7 +89,8 @@ empty_by w v = record {
 }
 
 -- the worker got the next packet: as it was sent, above all that it had got, in a slot that it did not hold
-pub record GotNext (z : LaneKey) (w : ℕ) (v : SeatView) (c : List (ℕ × Stored)) (n : ℕ) (m' : Me Stored SeatView) : Type 0 where
+pub record GotNext (z : LaneKey) (w : ℕ) (v : SeatView) (c : List (ℕ
+    × Stored)) (n : ℕ) (m' : Me Stored SeatView) : Type 0 where
   pub pair : Pair
   pub word : n ≡ entry_word pair
   pub left : length (log_of v.received w) < slice_index z.shares.value.items w
@@ -102,7 +104,8 @@ pub record GotNext (z : LaneKey) (w : ℕ) (v : SeatView) (c : List (ℕ × Stor
   pub fewer : length v.held < z.buffers
   pub alone : times pair.0 v.held ≡ 0
 
-pub record Received (z : LaneKey) (w : ℕ) (v : SeatView) (c : List (ℕ × Stored)) (n : ℕ) (m' : Me Stored SeatView) : Type 0 where
+pub record Received (z : LaneKey) (w : ℕ) (v : SeatView) (c : List (ℕ
+    × Stored)) (n : ℕ) (m' : Me Stored SeatView) : Type 0 where
   pub nothing : n ≡ 0 → m' ≡ (empty_by w v, c)
   pub last : n ≡ END → m' ≡ (ended_by w v, c)
   pub next : n ≢ 0 → n ≢ END → GotNext z w v c n m'
@@ -146,7 +149,8 @@ pub record WonSlot (z : LaneKey) (i : ℕ) (v : SeatView) (c : List (ℕ × Stor
   -- it did not hold the buffer
   pub alone : times i v.held ≡ 0
 
-pub record Claims (z : LaneKey) (i : ℕ) (v : SeatView) (c : List (ℕ × Stored)) (n : ℕ) (m' : Me Stored SeatView) : Type 0 where
+pub record Claims (z : LaneKey) (i : ℕ) (v : SeatView) (c : List (ℕ
+    × Stored)) (n : ℕ) (m' : Me Stored SeatView) : Type 0 where
   -- the word was taken: this ingest has claimed i before
   pub lost : n ≡ 0 → (m' ≡ (missed_by i v, c)) × (0 < times i v.claimed)
   pub won : n ≢ 0 → WonSlot z i v c m'

@@ -1,12 +1,16 @@
 // The calls of a lane's seats. None of them waits, and none takes memory.
-ghost use Rattle.std.specs.Prelude.{◌≡◌, ◌≢◌, ℕ, ◌+◌, ◌^◌, ◌<◌, ◌≤◌, false, true, [], ◌∷◌, ◌++◌, length, slice_index, IsNone, IfSome, IfNone, ◌↔◌, vec_len, vec_capacity, Some};
+ghost use Rattle.std.specs.Prelude.{◌≡◌, ◌≢◌, ℕ, ◌+◌, ◌^◌, ◌<◌, ◌≤◌, false, true, [], ◌∷◌, ◌++◌, length, slice_index};
+ghost use Rattle.std.specs.Prelude.{IsNone, IfSome, IfNone, ◌↔◌, vec_len, vec_capacity, Some};
 ghost use Rattle.lane_spec.specs.Counts.{times};
 ghost use Rattle.lane_spec.specs.Pairs.{AreBelow};
 ghost use Rattle.lane_core.specs.Got.{IfPacket, IfNothing, IfEnd};
 ghost use Rattle.lane_core.specs.View.{pairs_in};
-ghost use Rattle.lane_core.specs.Seats.{IsRecord, log_of, AreAllBelow, claims_given, IngestBecomes, WorkerBecomes, with_claim, with_miss, with_send, with_finish, with_packet, with_nothing, with_end, with_release};
+ghost use Rattle.lane_core.specs.Seats.{IsRecord, log_of, AreAllBelow, claims_given, IngestBecomes, WorkerBecomes};
+ghost use Rattle.lane_core.specs.Seats.{with_claim, with_miss, with_send, with_finish, with_packet, with_nothing};
+ghost use Rattle.lane_core.specs.Seats.{with_end, with_release};
 ghost use Rattle.lane_table.specs.Rule.{mark_at};
-ghost use Rattle.lane_table.specs.Seats.{lane_of, ingest_of, worker_of, IsIngestOf, IsWorkerOf, found_by, empty_finds, is_nothing};
+ghost use Rattle.lane_table.specs.Seats.{lane_of, ingest_of, worker_of, IsIngestOf, IsWorkerOf, found_by, empty_finds};
+ghost use Rattle.lane_table.specs.Seats.{is_nothing};
 ghost use Rattle.lane_table.specs.Steps.{closed_by};
 
 use crate::lane::{IngestSeat, TableLane, WorkerSeat};
@@ -18,17 +22,20 @@ use lane_core::{Got, Log};
 use packet_owner::{Buffer, Packet};
 
 impl TableLane {
-    /// Claims a buffer, which was in the pool and which the ingest alone then holds. It tries the word behind the one that gave the last
-    /// buffer first. `None` comes exactly where the word of each buffer was found taken at a step of this call, and then at least as many
-    /// claims as there are buffers gave a buffer.
+    /// Claims a buffer, which was in the pool and which the ingest alone then holds. It tries the word behind the one
+    /// that gave the last buffer first. `None` comes exactly where the word of each buffer was found taken at a step of
+    /// this call, and then at least as many claims as there are buffers gave a buffer.
     pub fn claim(&self, seat: &mut IngestSeat) -> Option<Buffer>
         requires own { IsIngestOf self.now seat.old }
         ensures own { IsIngestOf self.now seat.new }
-        ensures buffer { IfSome result (λ b. (b.slot < (lane_of self.now).buffers) × (b.room ≡ (lane_of self.now).bytes) × (times b.slot (ingest_of seat.old).held ≡ 0)) }
-        ensures given { IfSome result (λ b. IngestBecomes (with_claim b.slot (ingest_of seat.old)) (ingest_of seat.new)) }
+        ensures buffer { IfSome result (λ b. (b.slot < (lane_of self.now).buffers)
+            × (b.room ≡ (lane_of self.now).bytes) × (times b.slot (ingest_of seat.old).held ≡ 0)) }
+        ensures given { IfSome result
+            (λ b. IngestBecomes (with_claim b.slot (ingest_of seat.old)) (ingest_of seat.new)) }
         ensures missed { IfNone result (IngestBecomes (with_miss (ingest_of seat.old)) (ingest_of seat.new)) }
         ensures all_given { IfNone result ((lane_of self.now).buffers ≤ claims_given (ingest_of seat.old)) }
-        ensures exactly { IsNone result ↔ ((i : ℕ) → i < (lane_of self.now).buffers → found_by seat.old i < found_by seat.new i) }
+        ensures exactly { IsNone result
+            ↔ ((i : ℕ) → i < (lane_of self.now).buffers → found_by seat.old i < found_by seat.new i) }
     {
         let first = seat.next.min(self.buffers);
         match self.try_all(&mut seat.seat, first) {
@@ -81,8 +88,10 @@ impl TableLane {
 
     // Puts END into each ring.
     fn put_ends(&self, seat: &mut Seat<Stored, SeatView>, sent: &[Log])
-        requires lane { (seat.old.table_id ≡ self.now.table.shared.table_id) × (length sent.now ≡ self.now.workers) × (length seat.old.me.0.ends ≡ self.now.workers) }
-        requires seat { (0 < length seat.old.me.0.found) × (0 < times 0 seat.old.me.0.roles) × (pairs_in sent.now ≡ seat.old.me.0.sent) }
+        requires lane { (seat.old.table_id ≡ self.now.table.shared.table_id) × (length sent.now ≡ self.now.workers)
+            × (length seat.old.me.0.ends ≡ self.now.workers) }
+        requires seat { (0 < length seat.old.me.0.found) × (0 < times 0 seat.old.me.0.roles)
+            × (pairs_in sent.now ≡ seat.old.me.0.sent) }
         requires open_rings { (w : ℕ) → w < self.now.workers → mark_at seat.old.me.0.ends w ≡ false }
         ensures same { seat.new.table_id ≡ seat.old.table_id }
         ensures view { seat.new.me ≡ (record seat.old.me.0 { ends = seat.new.me.0.ends }, seat.old.me.1) }
@@ -95,15 +104,18 @@ impl TableLane {
         }
     }
 
-    /// Receives the next packet that was sent to this worker, as it was sent. `Nothing` comes exactly where the next cell was found
-    /// empty at the step of this call, and `End` exactly where END was taken.
+    /// Receives the next packet that was sent to this worker, as it was sent. `Nothing` comes exactly where the next
+    /// cell was found empty at the step of this call, and `End` exactly where END was taken.
     pub fn receive(&self, seat: &mut WorkerSeat) -> Got
         requires own { IsWorkerOf self.now seat.old }
         requires not_ended { (worker_of seat.old).ended ≡ false }
         ensures own { IsWorkerOf self.now seat.new }
-        ensures packet { IfPacket result (λ p. (p.room ≡ (lane_of self.now).bytes) × IsRecord (lane_of self.now).capture p.a p × AreBelow p.a (worker_of seat.old).received) }
-        ensures slot { IfPacket result (λ p. (p.slot < (lane_of self.now).buffers) × ((lane_of self.now).buffers ≤ 1024)) }
-        ensures received { IfPacket result (λ p. WorkerBecomes (with_packet p.slot p.a (worker_of seat.old)) (worker_of seat.new)) }
+        ensures packet { IfPacket result (λ p. (p.room ≡ (lane_of self.now).bytes)
+            × IsRecord (lane_of self.now).capture p.a p × AreBelow p.a (worker_of seat.old).received) }
+        ensures slot { IfPacket result (λ p. (p.slot < (lane_of self.now).buffers)
+            × ((lane_of self.now).buffers ≤ 1024)) }
+        ensures received { IfPacket result
+            (λ p. WorkerBecomes (with_packet p.slot p.a (worker_of seat.old)) (worker_of seat.new)) }
         ensures nothing { IfNothing result (WorkerBecomes (with_nothing (worker_of seat.old)) (worker_of seat.new)) }
         ensures exactly { (is_nothing result ≡ true) ↔ (empty_finds seat.old < empty_finds seat.new) }
         ensures ended { IfEnd result (WorkerBecomes (with_end (worker_of seat.old)) (worker_of seat.new)) }

@@ -10,6 +10,7 @@ use crate::view::{LaneKey, SeatView, Stored};
 use atomic_table::{Seat, Table};
 use lane_core::Log;
 use std::alloc::Global;
+use std::fmt;
 
 /// A lane: its pool of buffers and its rings, on one table.
 #[derive(Drop)]
@@ -22,11 +23,14 @@ pub struct TableLane {
     pub(crate) home: Vec<u32>,
     pub(crate) received: Vec<Log>,
     ghost small: { (1 ≤ buffers) × (buffers ≤ 1024) × (1 ≤ workers) × (workers ≤ 16) },
-    ghost key: { (table.shared.key.buffers ≡ buffers) × (table.shared.key.bytes ≡ bytes) × (table.shared.key.workers ≡ workers) },
-    ghost sized: { (table.shared.table_id.words ≡ buffers + workers * (buffers + 1)) × (table.shared.table_id.slots ≡ buffers) },
+    ghost key: { (table.shared.key.buffers ≡ buffers) × (table.shared.key.bytes ≡ bytes)
+        × (table.shared.key.workers ≡ workers) },
+    ghost sized: { (table.shared.table_id.words ≡ buffers + workers * (buffers + 1))
+        × (table.shared.table_id.slots ≡ buffers) },
     ghost shares: { length table.shared.key.shares.value.items ≡ workers },
     ghost entries: { length table.shared.key.capture.value.entries < 2 ^ 32 },
-    ghost book: { (home.items ≡ []) × (received.items ≡ []) × (buffers ≤ vec_capacity home) × (workers ≤ vec_capacity received) },
+    ghost book: { (home.items ≡ []) × (received.items ≡ []) × (buffers ≤ vec_capacity home)
+        × (workers ≤ vec_capacity received) },
 }
 
 /// The ingest's seat at a lane.
@@ -43,7 +47,8 @@ pub struct IngestSeat {
     ghost rest: { (seat.me.1 ≡ []) × (seat.me.0.out ≡ []) },
     ghost counts: { (length seat.me.0.found ≡ seat.table_id.slots) × (0 < seat.table_id.slots) },
     ghost logs: { pairs_in sent.items ≡ seat.me.0.sent },
-    ghost long: { (length seat.me.0.ends ≡ length sent.items) × (length seat.me.0.received ≡ length sent.items) × (length seat.me.0.ended ≡ length sent.items) },
+    ghost long: { (length seat.me.0.ends ≡ length sent.items) × (length seat.me.0.received ≡ length sent.items)
+        × (length seat.me.0.ended ≡ length sent.items) },
     ghost marks: { (w : ℕ) → w < length sent.items → mark_at seat.me.0.ends w ≡ finished },
     ghost list: { held.items ≡ seat.me.0.held },
     ghost below: { (i : ℕ) → seat.table_id.slots ≤ i → times i seat.me.0.held ≡ 0 },
@@ -65,10 +70,47 @@ pub struct WorkerSeat {
     ghost counts: { (length seat.me.0.found ≡ seat.table_id.slots) × (0 < seat.table_id.slots) },
     ghost log: { received.pairs ≡ log_of seat.me.0.received place },
     ghost mark: { mark_at seat.me.0.ended place ≡ ended },
-    ghost long: { (place < length seat.me.0.received) × (place < length seat.me.0.ended) × (place < length seat.me.0.empty) },
+    ghost long: { (place < length seat.me.0.received) × (place < length seat.me.0.ended)
+        × (place < length seat.me.0.empty) },
     ghost list: { held.items ≡ seat.me.0.held },
     ghost below: { (i : ℕ) → seat.table_id.slots ≤ i → times i seat.me.0.held ≡ 0 },
     ghost room: { seat.table_id.slots ≤ vec_capacity held },
+}
+
+/// Its numbers, and not its table.
+impl fmt::Debug for TableLane {
+    fn fmt<W: fmt::Write>(&self, f: &mut fmt::Formatter<W>) -> fmt::Result {
+        f.debug_struct("TableLane")
+            .field("buffers", &self.buffers)
+            .field("bytes", &self.bytes)
+            .field("workers", &self.workers)
+            .finish_non_exhaustive()
+    }
+}
+
+/// The slots that it holds, and not what it sent.
+impl fmt::Debug for IngestSeat {
+    fn fmt<W: fmt::Write>(&self, f: &mut fmt::Formatter<W>) -> fmt::Result {
+        f.debug_struct("IngestSeat")
+            .field("held", &self.held)
+            .field("missed", &self.missed)
+            .field("finished", &self.finished)
+            .field("next", &self.next)
+            .finish_non_exhaustive()
+    }
+}
+
+/// How many records it received, and not which.
+impl fmt::Debug for WorkerSeat {
+    fn fmt<W: fmt::Write>(&self, f: &mut fmt::Formatter<W>) -> fmt::Result {
+        f.debug_struct("WorkerSeat")
+            .field("place", &self.place)
+            .field("received", &self.received.as_slice().len())
+            .field("held", &self.held)
+            .field("ended", &self.ended)
+            .field("idle", &self.idle)
+            .finish_non_exhaustive()
+    }
 }
 
 impl IngestSeat {

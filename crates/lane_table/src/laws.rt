@@ -1,4 +1,6 @@
-ghost use Rattle.lane_table.specs.Shown.{RuleShowsLawful, ClaimIsEvent, ClaimMissIsEvent, ReleaseIsEvent, SendIsEvent, FinishIsEvent, ReceiveIsEvent, ReceiveMissIsEvent, TakeEndIsEvent, SlotsAreUnseen, SplitIsUnseen, JoinIsUnseen};
+ghost use Rattle.lane_table.specs.Shown.{RuleShowsLawful, ClaimIsEvent, ClaimMissIsEvent, ReleaseIsEvent, SendIsEvent};
+ghost use Rattle.lane_table.specs.Shown.{FinishIsEvent, ReceiveIsEvent, ReceiveMissIsEvent, TakeEndIsEvent};
+ghost use Rattle.lane_table.specs.Shown.{SlotsAreUnseen, SplitIsUnseen, JoinIsUnseen};
 
 /// A law: between any two steps the table shows a lawful lane.
 pub fn rule_shows_lawful()

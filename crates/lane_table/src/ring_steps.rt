@@ -20,14 +20,16 @@ impl TableLane {
     /// Takes the slot that the seat holds out of the table.
     pub(crate) fn take_slot(&self, seat: &mut Seat<Stored, SeatView>, slot: u32)
         requires lane { (seat.old.table_id ≡ self.now.table.shared.table_id) × (slot < self.now.buffers) }
-        requires seat { (0 < length seat.old.me.0.found) × (seat.old.me.0.out ≡ []) × (seat.old.me.1 ≡ []) × (0 < times slot seat.old.me.0.held) }
+        requires seat { (0 < length seat.old.me.0.found) × (seat.old.me.0.out ≡ []) × (seat.old.me.1 ≡ [])
+            × (0 < times slot seat.old.me.0.held) }
         ensures same { (seat.new.table_id ≡ seat.old.table_id) × (seat.new.id ≡ seat.old.id) }
         ensures taken { seat.new.me ≡ (taken_by slot seat.old.me.0, (slot, Empty) ∷ []) }
     {
         self.table.shared.load::<TakeSlot>(seat, slot as usize);
     }
 
-    /// Puts a packet, whose slot is out with the seat, into its slot, and then its entry into ring `w`, which has `count` entries.
+    /// Puts a packet, whose slot is out with the seat, into its slot, and then its entry into ring `w`, which has
+    /// `count` entries.
     pub(crate) fn put_entry(
         &self,
         seat: &mut Seat<Stored, SeatView>,
@@ -35,10 +37,14 @@ impl TableLane {
         count: u64,
         p: Packet<Raw>,
     )
-        requires lane { (seat.old.table_id ≡ self.now.table.shared.table_id) × (w < self.now.workers) × (p.slot < self.now.buffers) × (p.a < 2 ^ 32) }
-        requires seat { (0 < length seat.old.me.0.found) × (0 < times 0 seat.old.me.0.roles) × (seat.old.me.0.out ≡ p.slot ∷ []) × (seat.old.me.1 ≡ (p.slot, Empty) ∷ []) }
-        requires place { (count ≡ length (log_of seat.old.me.0.sent w)) × (mark_at seat.old.me.0.ends w ≡ false) × (count < slice_index self.now.table.shared.key.shares.value.items w) }
-        requires packet { (p.room ≡ self.now.bytes) × IsRecord self.now.table.shared.key.capture.value p.a p × ((y : ℕ) → Below p.a (log_of seat.old.me.0.sent y)) }
+        requires lane { (seat.old.table_id ≡ self.now.table.shared.table_id) × (w < self.now.workers)
+            × (p.slot < self.now.buffers) × (p.a < 2 ^ 32) }
+        requires seat { (0 < length seat.old.me.0.found) × (0 < times 0 seat.old.me.0.roles)
+            × (seat.old.me.0.out ≡ p.slot ∷ []) × (seat.old.me.1 ≡ (p.slot, Empty) ∷ []) }
+        requires place { (count ≡ length (log_of seat.old.me.0.sent w)) × (mark_at seat.old.me.0.ends w ≡ false)
+            × (count < slice_index self.now.table.shared.key.shares.value.items w) }
+        requires packet { (p.room ≡ self.now.bytes) × IsRecord self.now.table.shared.key.capture.value p.a p
+            × ((y : ℕ) → Below p.a (log_of seat.old.me.0.sent y)) }
         ensures same { (seat.new.table_id ≡ seat.old.table_id) × (seat.new.id ≡ seat.old.id) }
         ensures sent { seat.new.me ≡ (sent_by w p.slot p.a seat.old.me.0, []) }
     {
@@ -69,12 +75,18 @@ impl TableLane {
     /// Takes what lies in the next cell of ring `w`, of which `count` entries were taken.
     pub(crate) fn take_entry(&self, seat: &mut Seat<Stored, SeatView>, w: u32, count: u64) -> Got
         requires lane { (seat.old.table_id ≡ self.now.table.shared.table_id) × (w < self.now.workers) }
-        requires seat { (0 < length seat.old.me.0.found) × (seat.old.me.0.about ≡ Some self.now.table.shared.key) × (0 < times (w + 1) seat.old.me.0.roles) × (length seat.old.me.0.roles ≡ 1) × (seat.old.me.0.out ≡ []) × (seat.old.me.1 ≡ []) }
+        requires seat { (0 < length seat.old.me.0.found) × (seat.old.me.0.about ≡ Some self.now.table.shared.key)
+            × (0 < times (w + 1) seat.old.me.0.roles) × (length seat.old.me.0.roles ≡ 1) × (seat.old.me.0.out ≡ [])
+            × (seat.old.me.1 ≡ []) }
         requires place { (count ≡ length (log_of seat.old.me.0.received w)) × (mark_at seat.old.me.0.ended w ≡ false) }
         ensures same { (seat.new.table_id ≡ seat.old.table_id) × (seat.new.id ≡ seat.old.id) }
-        ensures packet { IfPacket result (λ p. (p.room ≡ self.now.bytes) × IsRecord self.now.table.shared.key.capture.value p.a p × Below p.a (log_of seat.old.me.0.received w) × (p.slot < self.now.buffers)) }
-        ensures received { IfPacket result (λ p. seat.new.me ≡ (settled_by (received_by w (p.slot, p.a) seat.old.me.0), [])) }
-        ensures room { IfPacket result (λ p. (length seat.old.me.0.held < self.now.buffers) × (count < slice_index self.now.table.shared.key.shares.value.items w)) }
+        ensures packet { IfPacket result (λ p. (p.room ≡ self.now.bytes)
+            × IsRecord self.now.table.shared.key.capture.value p.a p × Below p.a (log_of seat.old.me.0.received w)
+            × (p.slot < self.now.buffers)) }
+        ensures received { IfPacket result (λ p. seat.new.me
+            ≡ (settled_by (received_by w (p.slot, p.a) seat.old.me.0), [])) }
+        ensures room { IfPacket result (λ p. (length seat.old.me.0.held < self.now.buffers)
+            × (count < slice_index self.now.table.shared.key.shares.value.items w)) }
         ensures nothing { IfNothing result (seat.new.me ≡ (empty_by w seat.old.me.0, [])) }
         ensures ended { IfEnd result (seat.new.me ≡ (ended_by w seat.old.me.0, [])) }
     {

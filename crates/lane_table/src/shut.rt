@@ -1,5 +1,6 @@
 // How a lane ends.
-ghost use Rattle.std.specs.Prelude.{◌≡◌, ℕ, ◌+◌, ◌<◌, ◌≤◌, true, [], ◌∷◌, ◌++◌, map, length, slice_get, Some, vec_capacity};
+ghost use Rattle.std.specs.Prelude.{◌≡◌, ℕ, ◌+◌, ◌<◌, ◌≤◌, true, [], ◌∷◌, ◌++◌, map, length, slice_get, Some};
+ghost use Rattle.std.specs.Prelude.{vec_capacity};
 ghost use mathlib.Core.Option.{some};
 ghost use lib.ListN.{get_elem?};
 ghost use Rattle.std.specs.Slots.{slots_items, slots_len, IsFull};
@@ -43,7 +44,8 @@ fn join_all(
     requires ingest { HasJoined (length workers.items) 0 all.old.me.0.sent [] all.old.me.0 }
     ensures table { all.new.table_id ≡ table.now.shared.table_id }
     ensures received { pairs_in received.new.items ≡ logs_of workers.items }
-    ensures joined { HasJoined (length workers.items) (length workers.items) all.old.me.0.sent (pairs_in received.new.items) all.new.me.0 }
+    ensures joined { HasJoined (length workers.items) (length workers.items) all.old.me.0.sent
+        (pairs_in received.new.items) all.new.me.0 }
 {
     let count = workers.len();
     for done in 0..count {
@@ -64,7 +66,8 @@ fn join_all(
 /// Takes each buffer out of its slot and retires it, and lists the slots.
 fn emptied(mut closed: Closed<Stored, Global>, buffers: u32, mut home: Vec<u32>) -> Vec<u32>
     requires row { (slots_len closed.slots ≡ buffers) × IsFull closed.slots }
-    requires full { (i : ℕ) → i < buffers → (b : Buffer) × (get_elem? (slots_items closed.slots) i ≡ some (Free b)) × (b.slot ≡ i) }
+    requires full { (i : ℕ) → i < buffers
+        → (b : Buffer) × (get_elem? (slots_items closed.slots) i ≡ some (Free b)) × (b.slot ≡ i) }
     requires room { (buffers ≤ vec_capacity home) × (home.items ≡ []) }
     ensures { result.items ≡ numbers_from 0 buffers }
 {
@@ -87,8 +90,10 @@ impl TableLane {
     pub(crate) fn shut(self, ingest: IngestSeat, workers: Vec<WorkerSeat>) -> Book
         requires ingest { IsIngestOf self ingest × ((ingest_of ingest).held ≡ []) }
         requires count { length workers.items ≡ length (lane_of self).shares }
-        requires workers { (w : ℕ) (x : WorkerSeat) → slice_get workers.items w ≡ Some x → IsWorkerOf self x × ((worker_of x).place ≡ w) × ((worker_of x).ended ≡ true) × ((worker_of x).held ≡ []) }
-        ensures { IsBookOf (lane_of self) (ingest_of ingest) (map (λ x. (worker_of x).received) workers.items) (book_view result) }
+        requires workers { (w : ℕ) (x : WorkerSeat) → slice_get workers.items w ≡ Some x
+            → IsWorkerOf self x × ((worker_of x).place ≡ w) × ((worker_of x).ended ≡ true) × ((worker_of x).held ≡ []) }
+        ensures { IsBookOf (lane_of self) (ingest_of ingest) (map (λ x. (worker_of x).received) workers.items)
+            (book_view result) }
     {
         let IngestSeat {
             seat: mut all,

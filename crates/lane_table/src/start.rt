@@ -1,5 +1,6 @@
 // How a lane starts.
-ghost use Rattle.std.specs.Prelude.{◌≡◌, ℕ, ◌+◌, ◌*◌, ◌^◌, ◌<◌, ◌≤◌, [], ◌∷◌, length, replicate, slice_get, slice_index, Some, IfOk, OnOk, vec_capacity};
+ghost use Rattle.std.specs.Prelude.{◌≡◌, ℕ, ◌+◌, ◌*◌, ◌^◌, ◌<◌, ◌≤◌, [], ◌∷◌, length, replicate, slice_get};
+ghost use Rattle.std.specs.Prelude.{slice_index, Some, IfOk, OnOk, vec_capacity};
 ghost use Rattle.lane_core.specs.Seats.{IsNewIngest, IsNewWorker};
 ghost use Rattle.lane_core.specs.View.{pairs_in};
 ghost use Rattle.lane_table.specs.Hands.{with_roles};
@@ -56,7 +57,9 @@ fn opened(
     NoMemory,
 >
     requires { (key.now.buffers ≤ 1024) × (key.now.workers ≤ 16) }
-    ensures table { IfOk result (λ r. (r.0.shared.key ≡ key.now) × (r.0.shared.table_id.words ≡ key.now.buffers + key.now.workers * (key.now.buffers + 1)) × (r.0.shared.table_id.slots ≡ key.now.buffers)) }
+    ensures table { IfOk result (λ r. (r.0.shared.key ≡ key.now)
+        × (r.0.shared.table_id.words ≡ key.now.buffers + key.now.workers * (key.now.buffers + 1))
+        × (r.0.shared.table_id.slots ≡ key.now.buffers)) }
     ensures seat { IfOk result (λ r. (r.1.table_id ≡ r.0.shared.table_id) × (r.1.me ≡ (first_view key.now, []))) }
 {
     let words = first_words(alloc, key.buffers, key.workers)?;
@@ -92,8 +95,10 @@ impl TableLane {
     ) -> Result<(TableLane, Seat<Stored, SeatView>), NoMemory>
         requires buffers { (1 ≤ buffers) × (buffers ≤ 1024) }
         requires shares { (1 ≤ length shares.now) × (length shares.now ≤ 16) }
-        ensures lane { IfOk result (λ r. lane_of r.0 ≡ record { capture = capture.now; buffers = buffers; bytes = bytes; shares = shares.now }) }
-        ensures seat { IfOk result (λ r. (r.1.table_id ≡ r.0.table.shared.table_id) × (r.1.me ≡ (first_view r.0.table.shared.key, []))) }
+        ensures lane { IfOk result (λ r. lane_of r.0
+            ≡ record { capture = capture.now; buffers = buffers; bytes = bytes; shares = shares.now }) }
+        ensures seat { IfOk result (λ r. (r.1.table_id ≡ r.0.table.shared.table_id)
+            × (r.1.me ≡ (first_view r.0.table.shared.key, []))) }
     {
         let workers = shares.len() as u32;
         let count = capture.count();
@@ -127,8 +132,10 @@ impl TableLane {
         shares: &[u32],
     ) -> Result<Vec<WorkerSeat>, NoMemory>
         requires shares { shares.now ≡ self.now.table.shared.key.shares.value.items }
-        requires seat { (first.old.table_id ≡ self.now.table.shared.table_id) × (first.old.me ≡ (first_view self.now.table.shared.key, [])) }
-        ensures seat { OnOk result ((first.new.table_id ≡ self.now.table.shared.table_id) × (first.new.me ≡ (with_roles (0 ∷ []) (first_view self.now.table.shared.key), []))) }
+        requires seat { (first.old.table_id ≡ self.now.table.shared.table_id)
+            × (first.old.me ≡ (first_view self.now.table.shared.key, [])) }
+        ensures seat { OnOk result ((first.new.table_id ≡ self.now.table.shared.table_id)
+            × (first.new.me ≡ (with_roles (0 ∷ []) (first_view self.now.table.shared.key), []))) }
         ensures count { IfOk result (λ v. length v.items ≡ self.now.workers) }
         ensures workers { IfOk result (λ v. AreNewFrom self.now 0 v.items) }
     {
@@ -158,7 +165,8 @@ impl TableLane {
         shares: &[u32],
     ) -> Result<IngestSeat, NoMemory>
         requires shares { shares.now ≡ self.now.table.shared.key.shares.value.items }
-        requires seat { (seat.table_id ≡ self.now.table.shared.table_id) × (seat.me ≡ (with_roles (0 ∷ []) (first_view self.now.table.shared.key), [])) }
+        requires seat { (seat.table_id ≡ self.now.table.shared.table_id)
+            × (seat.me ≡ (with_roles (0 ∷ []) (first_view self.now.table.shared.key), [])) }
         ensures { IfOk result (λ i. IsIngestOf self.now i × IsNewIngest self.now.workers (ingest_of i)) }
     {
         let sent = empty_logs(alloc, shares)?;
@@ -173,7 +181,8 @@ impl TableLane {
         })
     }
 
-    /// A lane with so many buffers of so many bytes each, all in the pool, and its seats. It takes all the memory that the lane needs.
+    /// A lane with so many buffers of so many bytes each, all in the pool, and its seats. It takes all the memory that
+    /// the lane needs.
     pub(crate) fn start(
         alloc: Global,
         capture: &Capture,
@@ -183,10 +192,13 @@ impl TableLane {
     ) -> Result<Started<TableLane, IngestSeat, WorkerSeat>, NoMemory>
         requires buffers { (1 ≤ buffers) × (buffers ≤ 1024) }
         requires shares { (1 ≤ length shares.now) × (length shares.now ≤ 16) }
-        ensures lane { IfOk result (λ s. lane_of s.lane ≡ record { capture = capture.now; buffers = buffers; bytes = bytes; shares = shares.now }) }
-        ensures ingest { IfOk result (λ s. IsIngestOf s.lane s.ingest × IsNewIngest (length shares.now) (ingest_of s.ingest)) }
+        ensures lane { IfOk result (λ s. lane_of s.lane
+            ≡ record { capture = capture.now; buffers = buffers; bytes = bytes; shares = shares.now }) }
+        ensures ingest { IfOk result (λ s. IsIngestOf s.lane s.ingest
+            × IsNewIngest (length shares.now) (ingest_of s.ingest)) }
         ensures count { IfOk result (λ s. length s.workers.items ≡ length shares.now) }
-        ensures workers { IfOk result (λ s. (w : ℕ) (x : WorkerSeat) → slice_get s.workers.items w ≡ Some x → IsWorkerOf s.lane x × IsNewWorker w (worker_of x)) }
+        ensures workers { IfOk result (λ s. (w : ℕ) (x : WorkerSeat) → slice_get s.workers.items w ≡ Some x
+            → IsWorkerOf s.lane x × IsNewWorker w (worker_of x)) }
     {
         let (lane, mut first) = TableLane::open(alloc, capture, buffers, bytes, shares)?;
         let workers = lane.seat_workers(alloc, &mut first, shares)?;

@@ -3,6 +3,7 @@ ghost use Rattle.lane_core.specs.Alone.{HasSent, IsAtRest};
 ghost use Rattle.lane_table.specs.Kits.{open_lanes_of};
 ghost use Rattle.lane_table.specs.Seats.{lane_of, ingest_of, worker_of, IsIngestOf, IsWorkerOf};
 
+use crate::view::LaneKey;
 use crate::{IngestSeat, TableKit, TableLane, WorkerSeat};
 use brick_base::NoMemory;
 use lane_core::{Book, Got, LaneKit, Started};
@@ -10,6 +11,7 @@ use packet_owner::Packet;
 use pcap_io::Capture;
 use std::alloc::Global;
 use std::process::Abort;
+use std::snapshot::Snapshot;
 use std::sync::Wait;
 use std::test::Fail;
 use std::thread::join_mut;
@@ -341,5 +343,46 @@ fn an_ingest_and_a_worker_in_threads(rt: HostRuntime) -> Result<(), Fail> {
     if let Some(book) = kit.books().first() {
         is_whole(&rt, book, 8, 20_000);
     }
+    Ok(())
+}
+
+#[test]
+fn no_packets_are_printed(rt: HostRuntime) -> Result<(), Fail> {
+    let alloc = rt.alloc();
+    let capture = capture_of(&rt, alloc, 3)?;
+    assert!(rt; capture.count() == 3);
+    let mut kit = TableKit::new(alloc);
+    let (lane, mut ingest, mut worker) = start_one(&rt, alloc, &mut kit, &capture, 2)?;
+    must_send(&rt, &lane, &mut ingest, &capture, 0, 0);
+    must_send(&rt, &lane, &mut ingest, &capture, 1, 1);
+    must_miss(&rt, &lane, &mut ingest, &capture, 2);
+    must_take(&rt, &lane, &mut worker, Some((0, 0)));
+    let text = format!(in alloc; "{lane:?}")?;
+    assert_eq!(rt;
+        text.as_str(),
+        "TableLane { buffers: 2, bytes: 64, workers: 1, .. }"
+    );
+    let text = format!(in alloc; "{ingest:?}")?;
+    assert_eq!(rt;
+        text.as_str(),
+        "IngestSeat { held: [], missed: 1, finished: false, next: 2, .. }"
+    );
+    let text = format!(in alloc; "{worker:?}")?;
+    assert_eq!(rt;
+        text.as_str(),
+        "WorkerSeat { place: 0, received: 1, held: [], ended: false, idle: false, .. }"
+    );
+    let key = LaneKey {
+        buffers: 2,
+        bytes: 64,
+        workers: 1,
+        capture: Snapshot::of(&capture),
+        shares: Snapshot::of(&Vec::from_array(alloc, [3])?),
+    };
+    let text = format!(in alloc; "{key:?}")?;
+    assert_eq!(rt;
+        text.as_str(),
+        "LaneKey { buffers: 2, bytes: 64, workers: 1, .. }"
+    );
     Ok(())
 }

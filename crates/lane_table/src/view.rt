@@ -3,6 +3,7 @@ use brick_base::Raw;
 use packet_owner::{Buffer, Packet};
 use pcap_io::Capture;
 use std::collections::LinkedList;
+use std::fmt;
 use std::snapshot::Snapshot;
 
 /// What a slot holds.
@@ -25,6 +26,17 @@ pub struct LaneKey {
     pub capture: Snapshot<Capture>,
     /// Worker by worker, how many records may be sent to it.
     pub shares: Snapshot<Vec<u32>>,
+}
+
+/// Its numbers: snapshots are not read.
+impl fmt::Debug for LaneKey {
+    fn fmt<W: fmt::Write>(&self, f: &mut fmt::Formatter<W>) -> fmt::Result {
+        f.debug_struct("LaneKey")
+            .field("buffers", &self.buffers)
+            .field("bytes", &self.bytes)
+            .field("workers", &self.workers)
+            .finish_non_exhaustive()
+    }
 }
 
 /// What a seat knows. No value of it is made. Each list of lists has one list for each ring.

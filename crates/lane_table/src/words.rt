@@ -1,5 +1,6 @@
 // The words of a lane's table, as numbers, and the places of a seat's lists.
-ghost use Rattle.std.specs.Prelude.{◌≡◌, ◌≢◌, ℕ, ◌+◌, ◌*◌, ◌%◌, ◌^◌, ◌<◌, ◌≤◌, ◌++◌, ◌∷◌, [], length, slice_index, slice_set};
+ghost use Rattle.std.specs.Prelude.{◌≡◌, ◌≢◌, ℕ, ◌+◌, ◌*◌, ◌%◌, ◌^◌, ◌<◌, ◌≤◌, ◌++◌, ◌∷◌, [], length, slice_index};
+ghost use Rattle.std.specs.Prelude.{slice_set};
 ghost use Rattle.lane_spec.specs.Counts.{times};
 ghost use Rattle.lane_core.specs.View.{pairs_in};
 ghost use Rattle.lane_core.specs.Seats.{log_of};
@@ -50,7 +51,8 @@ pub fn count_of(logs: &[Log], w: u32) -> u64
 pub fn add_pair(logs: &mut Vec<Log>, w: u32, slot: u32, number: u32)
     requires there { w < length logs.old.items }
     requires room { length (log_of (pairs_in logs.old.items) w) < slice_index (rooms_in logs.old.items) w }
-    ensures pairs { pairs_in logs.new.items ≡ slice_set (pairs_in logs.old.items) w (log_of (pairs_in logs.old.items) w ++ (slot, number) ∷ []) }
+    ensures pairs { pairs_in logs.new.items
+        ≡ slice_set (pairs_in logs.old.items) w (log_of (pairs_in logs.old.items) w ++ (slot, number) ∷ []) }
     ensures long { length logs.new.items ≡ length logs.old.items }
     ensures rooms { (x : ℕ) → slice_index (rooms_in logs.old.items) x ≤ slice_index (rooms_in logs.new.items) x }
 {
