@@ -15,3 +15,4 @@ pub mod Running
 pub mod Ends
 pub mod Results
 pub mod Dones
+pub mod JobEnds

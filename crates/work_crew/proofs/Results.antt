@@ -1,6 +1,6 @@
 -- What came of the jobs of a crew that was shut.
 use Rattle.std.proofs.Common.{◌≡◌, ℕ, Bool, List, map, length, sym, ap, ◌∙◌, arith, Option, Some}
-use Rattle.std.specs.Prelude.{slice_get, take, Result, Ok, Err, OnErr}
+use Rattle.std.specs.Prelude.{slice_get, take, Result, Ok, Err, IfOk, OnErr}
 use Rattle.std.specs.List.{AllZip}
 use Rattle.std.specs.Global.{Vec}
 use Rattle.std.proofs.lemmas.Option.{slice_get_within}
@@ -22,6 +22,10 @@ use Rattle.work_crew.proofs.Ends.{whole_book, part_book, sent_ok, has_run, zip_j
 pub on_err : {A E P : Type 0} (r : Result A E) → P → OnErr r P
 on_err (Ok x) p = tt
 on_err (Err e) p = p
+
+pub both_if_ok : {A E : Type 0} {P Q R : A → Type 0} (r : Result A E) → ((x : A) → P x → Q x → R x) → IfOk r P → IfOk r Q → IfOk r R
+both_if_ok (Ok x) f p q = f x p q
+both_if_ok (Err e) f p q = tt
 
 module _ {L I S W : Type 0} (ingest_of : L → I → Type 0) (worker_of : L → S → Type 0) (lane_facts : L → LaneFacts) (ingest_facts : I → IngestFacts) (worker_facts : S → WorkerFacts)
     (follows : W → Plan → Type 0) (ready : W → Type 0) (stands : W → List ClassedItem → Type 0) (ended : W → Option ℕ) (broken : W → Bool) (jobs : List TenantJob) (workers : ℕ)

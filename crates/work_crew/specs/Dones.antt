@@ -20,16 +20,20 @@ worker_lists workers job refused = map (items_for workers job refused) (range_wi
 
 -- what the works of the workers answer, joined
 abbrev pub crew_answer : (Plan → List ClassedItem → ℕ → Answer) → ℕ → Job → List ℕ → Answer
-crew_answer answer workers job refused = merged (leaf_count (plan_of job.chain)) (map (λ list. answer (plan_of job.chain) list (records_in job)) (worker_lists workers job refused))
+crew_answer answer workers job refused = merged (leaf_count (plan_of job.chain))
+    (map (λ list. answer (plan_of job.chain) list (records_in job)) (worker_lists workers job refused))
 
 -- no count stands at its last value
 abbrev pub AreExact : List ℕ → Type 0
 AreExact counts = list_any (λ y. nat_eq y 4294967295) counts ≡ false
 
--- The outputs and the drops are what the works of the workers answer for the accepted records, joined, with the Big records counted.
-pub record IsTenantDone (answer : Plan → List ClassedItem → ℕ → Answer) (workers : ℕ) (job : Job) (refused : List ℕ) (d : TenantDone) : Type 0 where
+-- The outputs and the drops are what the works of the workers answer for the accepted records, joined, with the Big
+-- records counted.
+pub record IsTenantDone (answer : Plan → List ClassedItem → ℕ
+    → Answer) (workers : ℕ) (job : Job) (refused : List ℕ) (d : TenantDone) : Type 0 where
   pub refused_are : d.refused ≡ refused
   pub accepted : d.accepted ≡ length (accepted_items job.chain refused job.capture)
   pub outputs : map items_view d.outputs.items ≡ output_lists job.chain (crew_answer answer workers job refused).groups
-  pub drops : d.drops ≡ with_big (length (big_items job.chain job.capture)) (crew_answer answer workers job refused).drops
+  pub drops : d.drops ≡ with_big (length (big_items job.chain job.capture))
+      (crew_answer answer workers job refused).drops
   pub exact : AreExact (crew_answer answer workers job refused).drops

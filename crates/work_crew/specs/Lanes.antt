@@ -8,13 +8,15 @@ use Rattle.work_crew.specs.JobView.{job_view}
 use Rattle.work_core.specs.declared.job.TenantJob.{TenantJob}
 
 -- started for the job, and nothing was done
-pub record IsStarted {L I S : Type 0} (ingest_of : L → I → Type 0) (worker_of : L → S → Type 0) (lane_facts : L → LaneFacts) (ingest_facts : I → IngestFacts) (worker_facts : S → WorkerFacts)
+pub record IsStarted {L I S : Type 0} (ingest_of : L → I → Type 0) (worker_of : L → S → Type 0) (lane_facts : L
+    → LaneFacts) (ingest_facts : I → IngestFacts) (worker_facts : S → WorkerFacts)
     (workers : ℕ) (job : TenantJob) (x : Started L I S) : Type 0 where
   pub lane : IsLaneOf (job_view job) workers (lane_facts x.lane)
   pub ingest : ingest_of x.lane x.ingest
   pub new : IsNewIngest workers (ingest_facts x.ingest)
   pub count : length x.workers.items ≡ workers
-  pub seats : (w : ℕ) (s : S) → slice_get x.workers.items w ≡ Some s → worker_of x.lane s × IsNewWorker w (worker_facts s)
+  pub seats : (w : ℕ) (s : S) → slice_get x.workers.items w ≡ Some s
+      → worker_of x.lane s × IsNewWorker w (worker_facts s)
 
 -- the Book of a lane of which nothing was sent
 pub record IsUnusedBook (workers : ℕ) (job : TenantJob) (b : LaneBook) : Type 0 where

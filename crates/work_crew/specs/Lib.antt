@@ -10,3 +10,4 @@ pub mod WorkerSides
 pub mod Rows
 pub mod Crews
 pub mod Dones
+pub mod JobEnds

@@ -1,5 +1,6 @@
 -- The records of a job by their numbers, and which worker each of them goes to.
-use Rattle.std.specs.Prelude.{ℕ, zero, suc, ◌≡◌, ◌<◌, ◌≤◌, ◌%◌, nat_eq, Bool, true, false, ◌&&◌, List, [], ◌∷◌, ◌++◌, map, length, if◌then◌else◌, slice_index}
+use Rattle.std.specs.Prelude.{ℕ, zero, suc, ◌≡◌, ◌<◌, ◌≤◌, ◌%◌, nat_eq, Bool, true, false, ◌&&◌, List, [], ◌∷◌, ◌++◌}
+use Rattle.std.specs.Prelude.{map, length, if◌then◌else◌, slice_index}
 use Rattle.std.specs.List.{slice_index_or, list_any}
 use Rattle.brick_spec.specs.Capture.{Contents, Entry}
 use Rattle.brick_spec.specs.Flow.{Class}
@@ -81,4 +82,5 @@ pub record IsLaneOf (job : Job) (workers : ℕ) (lane : LaneFacts) : Type 0 wher
   pub buffers : lane.buffers ≡ job.chain.buffers
   pub bytes : lane.bytes ≡ job.chain.bytes
   pub count : length lane.shares ≡ workers
-  pub shares : (w : ℕ) → w < workers → length (numbers_where (of_worker job workers w) (records_in job)) ≤ slice_index lane.shares w
+  pub shares : (w : ℕ) → w < workers
+      → length (numbers_where (of_worker job workers w) (records_in job)) ≤ slice_index lane.shares w

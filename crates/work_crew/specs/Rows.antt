@@ -34,5 +34,6 @@ pub record IsEmptied {S W : Type 0} (old new : Row S W) : Type 0 where
 
 -- What stands at place w of row t stands at place t of column w.
 abbrev pub IsTurned : {S W : Type 0} → List (Row S W) → List (Row S W) → Type 0
-IsTurned {S = S} {W = W} rows columns = (t w : ℕ) (r c : Row S W) → slice_get rows t ≡ Some r → slice_get columns w ≡ Some c
+IsTurned {S = S} {W = W} rows columns =
+    (t w : ℕ) (r c : Row S W) → slice_get rows t ≡ Some r → slice_get columns w ≡ Some c
     → (slice_get r.seats.items w ≡ slice_get c.seats.items t) × (slice_get r.works.items w ≡ slice_get c.works.items t)

@@ -11,14 +11,16 @@ use Rattle.lane_core.specs.Seats.{WorkerFacts}
 use Rattle.work_crew.specs.Records.{records_of}
 
 -- nothing came to the work yet
-pub record IsNewWork {W : Type 0} (ready : W → Type 0) (stands : W → List ClassedItem → Type 0) (ended : W → Option ℕ) (broken : W → Bool) (w : W) : Type 0 where
+pub record IsNewWork {W : Type 0} (ready : W → Type 0) (stands : W → List ClassedItem → Type 0) (ended : W
+    → Option ℕ) (broken : W → Bool) (w : W) : Type 0 where
   pub usable : ready w
   pub nothing : stands w []
   pub open_work : ended w ≡ None
   pub works : broken w ≡ false
 
 -- Where it has not failed it stands for the records of the log, in order, each with its class.
-pub record HasWorked {W : Type 0} (ready : W → Type 0) (stands : W → List ClassedItem → Type 0) (ended : W → Option ℕ) (broken : W → Bool) (job : Job) (f : WorkerFacts) (w : W) : Type 0 where
+pub record HasWorked {W : Type 0} (ready : W → Type 0) (stands : W → List ClassedItem → Type 0) (ended : W
+    → Option ℕ) (broken : W → Bool) (job : Job) (f : WorkerFacts) (w : W) : Type 0 where
   pub held : f.held ≡ []
   pub usable : ready w
   pub means : broken w ≡ false → stands w (records_of job f.received)
@@ -31,8 +33,10 @@ pair_of w = (w.packet.slot, w.packet.a)
 abbrev pub slot_of : Work → ℕ
 slot_of w = w.packet.slot
 
--- Packets were received into a batch: they are the records that the seat's log has more, in order, and it holds their buffers.
-pub record HasGathered (job : Job) (bytes : ℕ) (old new : WorkerFacts) (works : List Work) (took_end : Bool) : Type 0 where
+-- Packets were received into a batch: they are the records that the seat's log has more, in order, and it holds their
+-- buffers.
+pub record HasGathered (job : Job) (bytes : ℕ) (old new : WorkerFacts) (works : List Work)
+    (took_end : Bool) : Type 0 where
   pub received : new.received ≡ old.received ++ map pair_of works
   pub held : new.held ≡ map slot_of works
   pub place : new.place ≡ old.place

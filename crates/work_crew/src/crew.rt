@@ -1,5 +1,6 @@
 //! Crews: the lanes of some jobs, run together from their start to their Books.
-ghost use Rattle.std.specs.Prelude.{◌≡◌, ℕ, ◌+◌, ◌<◌, ◌≤◌, true, false, List, [], ◌∷◌, ◌++◌, length, map, take, Some, Ok, IfSome, IfNone, IfOk, OnOk, OnErr, slice_get, vec_len, vec_capacity};
+ghost use Rattle.std.specs.Prelude.{◌≡◌, ℕ, ◌+◌, ◌<◌, ◌≤◌, true, false, List, [], ◌∷◌, ◌++◌, length, map, take, Some};
+ghost use Rattle.std.specs.Prelude.{Ok, IfSome, IfNone, IfOk, OnOk, OnErr, slice_get, vec_len, vec_capacity};
 ghost use Rattle.std.specs.List.{AllZip};
 ghost use Rattle.lane_spec.specs.LaneBook.{LaneBook};
 ghost use Rattle.run_spec.specs.Books.{IsBookOf, IsPartBook};
@@ -7,7 +8,8 @@ ghost use Rattle.work_crew.specs.JobView.{job_view};
 ghost use Rattle.work_crew.specs.Members.{Members};
 ghost use Rattle.work_crew.specs.Lanes.{IsStarted};
 ghost use Rattle.work_crew.specs.Rows.{Each, HasPlaces};
-ghost use Rattle.work_crew.specs.Crews.{Threes, Fours, IsEmptyCrew, IsCrewOf, KeepsRoom, HasCounts, HasLast, IsSetOut, AreNewWorks, IsOver, IsShutAs, IsKept, IsCrewOver, IsLaneDone};
+ghost use Rattle.work_crew.specs.Crews.{Threes, Fours, IsEmptyCrew, IsCrewOf, KeepsRoom, HasCounts, HasLast, IsSetOut};
+ghost use Rattle.work_crew.specs.Crews.{AreNewWorks, IsOver, IsShutAs, IsKept, IsCrewOver, IsLaneDone};
 ghost use Rattle.work_crew.specs.declared.crew.LaneDone.{LaneDone};
 
 use crate::row::{Row, empty_rows, turn_round};
@@ -20,7 +22,8 @@ use std::sync::Wait;
 use std::thread::Threads;
 use work_core::{ChainWork, TenantJob};
 
-/// The lanes of a crew, the ingest of each, and a row for each: the seats and works of its workers, while these do not work.
+/// The lanes of a crew, the ingest of each, and a row for each: the seats and works of its workers, while these do not
+/// work.
 #[derive(Debug, Drop)]
 pub struct Crew<L, I, S, W> {
     pub lanes: Vec<L>,
@@ -75,7 +78,8 @@ pub fn split<L: Drop, I: Drop, S: Drop, W: Drop>(
     }
 }
 
-/// Keeps the works of a lane and which records were refused, behind those of the lanes before it, where memory did not run out.
+/// Keeps the works of a lane and which records were refused, behind those of the lanes before it, where memory did not
+/// run out.
 fn keep<W: Drop>(
     before: Result<(), NoMemory>,
     outcome: Option<Result<Numbers, NoMemory>>,
@@ -83,7 +87,8 @@ fn keep<W: Drop>(
     done: &mut Vec<LaneDone<W>>,
 ) -> Result<(), NoMemory>
     requires room { vec_len done.old < vec_capacity done.old }
-    ensures kept { OnOk result ((d : LaneDone W) × (done.new.items ≡ done.old.items ++ d ∷ []) × (d.works ≡ works) × (outcome ≡ Some (Ok d.refused))) }
+    ensures kept { OnOk result ((d : LaneDone W) × (done.new.items ≡ done.old.items ++ d ∷ []) × (d.works ≡ works)
+        × (outcome ≡ Some (Ok d.refused))) }
     ensures before { OnOk result (before ≡ Ok tt) }
     ensures few { vec_len done.new ≤ vec_len done.old + 1 }
     ensures room { vec_capacity done.old ≤ vec_capacity done.new }
@@ -120,8 +125,8 @@ fn take_last<L: Drop, I: Drop, S: Drop, W: Drop>(
     Some(Last { lane, side, row })
 }
 
-/// Shuts lanes that are over, in order, and keeps their works and which records were refused. Where memory ran out in an ingest all
-/// lanes are shut too.
+/// Shuts lanes that are over, in order, and keeps their works and which records were refused. Where memory ran out in
+/// an ingest all lanes are shut too.
 pub fn shut_all<K: LaneKit, W: Drop, R: Wait>(
     rt: &R,
     kit: &mut K,
@@ -130,12 +135,18 @@ pub fn shut_all<K: LaneKit, W: Drop, R: Wait>(
 ) -> Result<(), NoMemory>
     requires open { length crew.lanes.items ≤ K.open_lanes kit.old }
     requires counts { HasCounts crew }
-    requires over { Threes (IsOver K.is_ingest_of K.is_worker_of K.lane_facts K.ingest_facts K.worker_facts) crew.lanes.items crew.ingests.items crew.rows.items }
+    requires over { Threes
+        (IsOver K.is_ingest_of K.is_worker_of K.lane_facts K.ingest_facts K.worker_facts) crew.lanes.items
+        crew.ingests.items crew.rows.items }
     requires empty { done.old.items ≡ [] }
     requires room { length crew.lanes.items ≤ vec_capacity done.old }
     ensures closed { K.open_lanes kit.new + length crew.lanes.items ≡ K.open_lanes kit.old }
-    ensures books { (bs : List LaneBook) × (K.books kit.new ≡ K.books kit.old ++ bs) × (length bs ≡ length crew.lanes.items) × Fours (IsShutAs K.lane_facts K.ingest_facts K.worker_facts) crew.lanes.items crew.ingests.items crew.rows.items bs }
-    ensures kept { OnOk result ((length done.new.items ≡ length crew.lanes.items) × Threes IsKept crew.ingests.items crew.rows.items done.new.items) }
+    ensures books { (bs : List LaneBook) × (K.books kit.new ≡ K.books kit.old ++ bs)
+        × (length bs ≡ length crew.lanes.items)
+        × Fours (IsShutAs K.lane_facts K.ingest_facts K.worker_facts) crew.lanes.items crew.ingests.items
+        crew.rows.items bs }
+    ensures kept { OnOk result ((length done.new.items ≡ length crew.lanes.items)
+        × Threes IsKept crew.ingests.items crew.rows.items done.new.items) }
     ensures few { vec_len done.new ≤ length crew.lanes.items }
     ensures room { vec_capacity done.old ≤ vec_capacity done.new }
 {
@@ -168,7 +179,8 @@ fn set_out<L: Drop, I: Drop, S: Drop, W: Drop>(
     turn_round(&mut crew.rows, sides);
 }
 
-/// Runs started lanes with the works of their jobs until all is received, and brings seats and works back to their lanes.
+/// Runs started lanes with the works of their jobs until all is received, and brings seats and works back to their
+/// lanes.
 fn run_started<K: LaneKit, W: ChainWork, R: Threads + Wait + Sync>(
     rt: &R,
     alloc: Global,
@@ -182,12 +194,15 @@ fn run_started<K: LaneKit, W: ChainWork, R: Threads + Wait + Sync>(
     requires workers { (1 ≤ workers) × (length sides.old ≡ workers) }
     requires few { length jobs.now ≤ 16 }
     requires count { length lanes.items ≡ length jobs.now }
-    requires started { Members (IsStarted K.is_ingest_of K.is_worker_of K.lane_facts K.ingest_facts K.worker_facts workers) jobs.now lanes.items }
+    requires started { Members
+        (IsStarted K.is_ingest_of K.is_worker_of K.lane_facts K.ingest_facts K.worker_facts workers) jobs.now
+        lanes.items }
     requires works_count { length works.items ≡ length jobs.now }
     requires works { Members (AreNewWorks W.follows W.ready W.stands W.ended W.broken workers) jobs.now works.items }
     requires empty { IsEmptyCrew (length jobs.now) crew.old }
     requires sides { Each (HasPlaces 0 (length jobs.now)) sides.old }
-    ensures over { IsCrewOver K.is_ingest_of K.is_worker_of K.lane_facts K.ingest_facts K.worker_facts W.follows W.ready W.stands W.ended W.broken jobs.now workers crew.new }
+    ensures over { IsCrewOver K.is_ingest_of K.is_worker_of K.lane_facts K.ingest_facts K.worker_facts W.follows
+        W.ready W.stands W.ended W.broken jobs.now workers crew.new }
 {
     set_out(lanes, works, crew, sides);
     run_both::<K, W, R>(
@@ -230,8 +245,8 @@ fn rooms_for<L: Drop, I: Drop, S: Drop, W: Drop>(
     Ok(Rooms { crew, sides, done })
 }
 
-/// Runs the jobs, each over a lane of its own with an ingest of its own, and the workers over all lanes. `works` has a list for each
-/// job, with a new work for each worker. What came of each job is answered; the works are not ended yet.
+/// Runs the jobs, each over a lane of its own with an ingest of its own, and the workers over all lanes. `works` has a
+/// list for each job, with a new work for each worker. What came of each job is answered; the works are not ended yet.
 pub fn run_lanes<K: LaneKit, W: ChainWork, R: Threads + Wait + Sync>(
     rt: &R,
     alloc: Global,
@@ -245,9 +260,13 @@ pub fn run_lanes<K: LaneKit, W: ChainWork, R: Threads + Wait + Sync>(
     requires count { length works.items ≡ length jobs.now }
     requires works { Members (AreNewWorks W.follows W.ready W.stands W.ended W.broken workers) jobs.now works.items }
     ensures open_lanes { K.open_lanes kit.new ≡ K.open_lanes kit.old }
-    ensures done { IfOk result (λ done. (bs : List LaneBook) × (K.books kit.new ≡ K.books kit.old ++ bs) × AllZip (IsBookOf workers) (map job_view jobs.now) bs
-        × (length done.items ≡ length jobs.now) × Threes (λ job b d. IsLaneDone W.follows W.ready W.stands W.ended W.broken workers (job_view job) b d) jobs.now bs done.items) }
-    ensures no_memory { OnErr result ((bs : List LaneBook) × (K.books kit.new ≡ K.books kit.old ++ bs) × AllZip (IsPartBook workers) (take (length bs) (map job_view jobs.now)) bs) }
+    ensures done { IfOk result (λ done. (bs : List LaneBook) × (K.books kit.new ≡ K.books kit.old ++ bs)
+        × AllZip (IsBookOf workers) (map job_view jobs.now) bs
+        × (length done.items ≡ length jobs.now)
+        × Threes (λ job b d. IsLaneDone W.follows W.ready W.stands W.ended W.broken workers
+        (job_view job) b d) jobs.now bs done.items) }
+    ensures no_memory { OnErr result ((bs : List LaneBook) × (K.books kit.new ≡ K.books kit.old ++ bs)
+        × AllZip (IsPartBook workers) (take (length bs) (map job_view jobs.now)) bs) }
 {
     let rooms = rooms_for(alloc, jobs.len(), workers)?;
     let Rooms {

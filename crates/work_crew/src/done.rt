@@ -1,5 +1,6 @@
 //! The ends of the works of a job, and what they give together.
-ghost use Rattle.std.specs.Prelude.{◌≡◌, ℕ, ◌+◌, ◌<◌, ◌≤◌, List, [], ◌∷◌, ◌++◌, length, map, take, IfOk, OnOk, OnErr, if◌then◌else◌};
+ghost use Rattle.std.specs.Prelude.{◌≡◌, ℕ, ◌+◌, ◌<◌, ◌≤◌, List, [], ◌∷◌, ◌++◌, length, map, take, IfOk, OnOk, OnErr};
+ghost use Rattle.std.specs.Prelude.{if◌then◌else◌};
 ghost use Rattle.std.specs.List.{AllZip};
 ghost use Rattle.run_spec.specs.Books.{IsBookOf, IsPartBook, unsent_in};
 ghost use Rattle.tenant_spec.specs.Records.{big_items};
@@ -15,6 +16,7 @@ ghost use Rattle.work_crew.specs.Dones.{AreExact, IsTenantDone};
 ghost use Rattle.work_crew.specs.declared.crew.LaneDone.{LaneDone};
 
 use crate::crew::{LaneDone, run_lanes};
+use crate::finishing::finish_all;
 use brick_base::NoMemory;
 use lane_core::LaneKit;
 use std::alloc::Global;
@@ -23,8 +25,8 @@ use std::thread::Threads;
 use work_core::{ChainWork, TenantDone, TenantJob, WorkResult, chains_own_keys, join_outputs};
 use work_parts::{join_parts, merged_has_leaves};
 
-/// The counts with so many Big records more. A count that stands at its last value may be too small: then it is as if memory had run
-/// out.
+/// The counts with so many Big records more. A count that stands at its last value may be too small: then it is as if
+/// memory had run out.
 fn add_big(drops: [u32; 9], big: u32) -> Result<[u32; 9], NoMemory>
     ensures counts { IfOk result (λ counts. counts ≡ with_big big drops) }
     ensures exact { OnOk result (AreExact drops) }
@@ -63,14 +65,15 @@ fn count_big(job: &TenantJob) -> u32
 }
 
 /// Ends the works of a job, and joins what they give.
-fn finish_job<W: ChainWork>(
+pub fn finish_job<W: ChainWork>(
     alloc: Global,
     job: &TenantJob,
     lane: LaneDone<W>,
     workers: u32,
 ) -> Result<TenantDone, NoMemory>
     requires some { 1 ≤ workers }
-    requires lane { (b : LaneBook) × IsLaneDone W.follows W.ready W.stands W.ended W.broken workers (job_view job.now) b lane }
+    requires lane { (b : LaneBook)
+        × IsLaneDone W.follows W.ready W.stands W.ended W.broken workers (job_view job.now) b lane }
     ensures { IfOk result (IsTenantDone W.answer workers (job_view job.now) lane.refused) }
 {
     chains_own_keys();
@@ -90,32 +93,8 @@ fn finish_job<W: ChainWork>(
     })
 }
 
-/// Ends the works of the first jobs, in order, and adds what they give.
-fn finish_all<W: ChainWork>(
-    alloc: Global,
-    jobs: &[TenantJob],
-    lanes: Vec<LaneDone<W>>,
-    workers: u32,
-    done: &mut Vec<TenantDone>,
-) -> Result<(), NoMemory>
-    requires some { 1 ≤ workers }
-    requires few { length lanes.items ≤ length jobs.now }
-    requires lanes { Members (λ job lane. (b : LaneBook) × IsLaneDone W.follows W.ready W.stands W.ended W.broken workers (job_view job) b lane) jobs.now lanes.items }
-    requires empty { done.old.items ≡ [] }
-    ensures count { OnOk result (length done.new.items ≡ length lanes.items) }
-    ensures done { OnOk result (Threes (λ job lane d. IsTenantDone W.answer workers (job_view job) lane.refused d) jobs.now lanes.items done.new.items) }
-{
-    let mut rest = lanes;
-    if let Some(last) = rest.pop() {
-        let t = rest.len();
-        finish_all(alloc, jobs, rest, workers, done)?;
-        let one = finish_job(alloc, &jobs[t], last, workers)?;
-        done.push(one)?;
-    }
-    Ok(())
-}
-
-/// Runs the jobs as `run_lanes` does, ends their works, and answers what came of each. The works are given up.
+/// Runs the jobs as `run_lanes` does, ends their works job beside job, and answers what came of each. The works are
+/// given up.
 pub fn run_jobs<K: LaneKit, W: ChainWork, R: Threads + Wait + Sync>(
     rt: &R,
     alloc: Global,
@@ -129,14 +108,16 @@ pub fn run_jobs<K: LaneKit, W: ChainWork, R: Threads + Wait + Sync>(
     requires count { length works.items ≡ length jobs.now }
     requires works { Members (AreNewWorks W.follows W.ready W.stands W.ended W.broken workers) jobs.now works.items }
     ensures open_lanes { K.open_lanes kit.new ≡ K.open_lanes kit.old }
-    ensures done { IfOk result (λ done. (bs : List LaneBook) × (K.books kit.new ≡ K.books kit.old ++ bs) × AllZip (IsBookOf workers) (map job_view jobs.now) bs
-        × (length done.items ≡ length jobs.now) × Threes (λ job b d. IsTenantDone W.answer workers (job_view job) (unsent_in (job_view job) b) d) jobs.now bs done.items) }
-    ensures no_memory { OnErr result ((bs : List LaneBook) × (K.books kit.new ≡ K.books kit.old ++ bs) × AllZip (IsPartBook workers) (take (length bs) (map job_view jobs.now)) bs) }
+    ensures done { IfOk result (λ done. (bs : List LaneBook) × (K.books kit.new ≡ K.books kit.old ++ bs)
+        × AllZip (IsBookOf workers) (map job_view jobs.now) bs
+        × (length done.items ≡ length jobs.now)
+        × Threes (λ job b d. IsTenantDone W.answer workers (job_view job)
+        (unsent_in (job_view job) b) d) jobs.now bs done.items) }
+    ensures no_memory { OnErr result ((bs : List LaneBook) × (K.books kit.new ≡ K.books kit.old ++ bs)
+        × AllZip (IsPartBook workers) (take (length bs) (map job_view jobs.now)) bs) }
 {
     let lanes = run_lanes::<K, W, R>(rt, alloc, kit, jobs, works, workers)?;
-    let mut done = Vec::new(alloc);
-    finish_all(alloc, jobs, lanes, workers, &mut done)?;
-    Ok(done)
+    finish_all::<W, R>(rt, alloc, jobs, lanes, workers)
 }
 
 /// Runs the jobs as `run_jobs` does. The jobs are given up too.
@@ -153,9 +134,13 @@ pub fn run_crew<K: LaneKit, W: ChainWork, R: Threads + Wait + Sync>(
     requires count { length works.items ≡ length jobs.items }
     requires works { Members (AreNewWorks W.follows W.ready W.stands W.ended W.broken workers) jobs.items works.items }
     ensures open_lanes { K.open_lanes kit.new ≡ K.open_lanes kit.old }
-    ensures done { IfOk result (λ done. (bs : List LaneBook) × (K.books kit.new ≡ K.books kit.old ++ bs) × AllZip (IsBookOf workers) (map job_view jobs.items) bs
-        × (length done.items ≡ length jobs.items) × Threes (λ job b d. IsTenantDone W.answer workers (job_view job) (unsent_in (job_view job) b) d) jobs.items bs done.items) }
-    ensures no_memory { OnErr result ((bs : List LaneBook) × (K.books kit.new ≡ K.books kit.old ++ bs) × AllZip (IsPartBook workers) (take (length bs) (map job_view jobs.items)) bs) }
+    ensures done { IfOk result (λ done. (bs : List LaneBook) × (K.books kit.new ≡ K.books kit.old ++ bs)
+        × AllZip (IsBookOf workers) (map job_view jobs.items) bs
+        × (length done.items ≡ length jobs.items)
+        × Threes (λ job b d. IsTenantDone W.answer workers (job_view job)
+        (unsent_in (job_view job) b) d) jobs.items bs done.items) }
+    ensures no_memory { OnErr result ((bs : List LaneBook) × (K.books kit.new ≡ K.books kit.old ++ bs)
+        × AllZip (IsPartBook workers) (take (length bs) (map job_view jobs.items)) bs) }
 {
     run_jobs::<K, W, R>(rt, alloc, kit, &jobs, works, workers)
 }

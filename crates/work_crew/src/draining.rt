@@ -31,18 +31,24 @@ fn drain_all<K: LaneKit, R: Threads + Wait + Sync>(
     lane: &K::Lane,
     workers: &mut [K::Worker],
 )
-    requires { All (λ x. K.is_worker_of lane.now x × ((K.worker_facts x).held ≡ []) × ((K.worker_facts x).ended ≡ false)) workers.old }
+    requires { All (λ x. K.is_worker_of lane.now x × ((K.worker_facts x).held ≡ [])
+        × ((K.worker_facts x).ended ≡ false)) workers.old }
     ensures count { length workers.new ≡ length workers.old }
-    ensures over { All (λ x. K.is_worker_of lane.now x × ((K.worker_facts x).held ≡ []) × ((K.worker_facts x).ended ≡ true)) workers.new }
-    ensures places { (w : ℕ) (x y : K.Worker) → slice_get workers.old w ≡ Some x → slice_get workers.new w ≡ Some y → (K.worker_facts y).place ≡ (K.worker_facts x).place }
+    ensures over { All (λ x. K.is_worker_of lane.now x × ((K.worker_facts x).held ≡ [])
+        × ((K.worker_facts x).ended ≡ true)) workers.new }
+    ensures places { (w : ℕ) (x y : K.Worker) → slice_get workers.old w ≡ Some x → slice_get workers.new w ≡ Some y
+        → (K.worker_facts y).place ≡ (K.worker_facts x).place }
 {
     thread::for_each_mut(
         rt,
         workers,
         16,
         &|_, seat: &mut K::Worker|
-            requires { K.is_worker_of lane.now seat.old × ((K.worker_facts seat.old).held ≡ []) × ((K.worker_facts seat.old).ended ≡ false) }
-            ensures { K.is_worker_of lane.entry.now seat.new × ((K.worker_facts seat.new).held ≡ []) × ((K.worker_facts seat.new).ended ≡ true) × ((K.worker_facts seat.new).place ≡ (K.worker_facts seat.old).place) }
+            requires { K.is_worker_of lane.now seat.old × ((K.worker_facts seat.old).held ≡ [])
+                × ((K.worker_facts seat.old).ended ≡ false) }
+            ensures { K.is_worker_of lane.entry.now seat.new × ((K.worker_facts seat.new).held ≡ [])
+                × ((K.worker_facts seat.new).ended ≡ true)
+                × ((K.worker_facts seat.new).place ≡ (K.worker_facts seat.old).place) }
         { drain_one::<K, R>(rt, lane, seat) },
     );
 }
@@ -56,23 +62,32 @@ pub fn end_unused<K: LaneKit, R: Threads + Wait + Sync>(
 )
     requires own { K.is_ingest_of lane.now ingest.old }
     requires new { ((K.ingest_facts ingest.old).held ≡ []) × ((K.ingest_facts ingest.old).finished ≡ false) }
-    requires seats { All (λ x. K.is_worker_of lane.now x × ((K.worker_facts x).held ≡ []) × ((K.worker_facts x).ended ≡ false)) workers.old }
+    requires seats { All (λ x. K.is_worker_of lane.now x × ((K.worker_facts x).held ≡ [])
+        × ((K.worker_facts x).ended ≡ false)) workers.old }
     ensures own { K.is_ingest_of lane.now ingest.new }
     ensures done { IngestBecomes (with_finish (K.ingest_facts ingest.old)) (K.ingest_facts ingest.new) }
     ensures count { length workers.new ≡ length workers.old }
-    ensures over { All (λ x. K.is_worker_of lane.now x × ((K.worker_facts x).held ≡ []) × ((K.worker_facts x).ended ≡ true)) workers.new }
-    ensures places { (w : ℕ) (x y : K.Worker) → slice_get workers.old w ≡ Some x → slice_get workers.new w ≡ Some y → (K.worker_facts y).place ≡ (K.worker_facts x).place }
+    ensures over { All (λ x. K.is_worker_of lane.now x × ((K.worker_facts x).held ≡ [])
+        × ((K.worker_facts x).ended ≡ true)) workers.new }
+    ensures places { (w : ℕ) (x y : K.Worker) → slice_get workers.old w ≡ Some x → slice_get workers.new w ≡ Some y
+        → (K.worker_facts y).place ≡ (K.worker_facts x).place }
 {
     join_mut(
         rt,
         &mut ||
-            requires { K.is_ingest_of lane.now ingest.now × ((K.ingest_facts ingest.now).held ≡ []) × ((K.ingest_facts ingest.now).finished ≡ false) }
-            ensures { K.is_ingest_of lane.entry.now ingest.exit.now × IngestBecomes (with_finish (K.ingest_facts ingest.entry.now)) (K.ingest_facts ingest.exit.now) }
+            requires { K.is_ingest_of lane.now ingest.now × ((K.ingest_facts ingest.now).held ≡ [])
+                × ((K.ingest_facts ingest.now).finished ≡ false) }
+            ensures { K.is_ingest_of lane.entry.now ingest.exit.now
+                × IngestBecomes (with_finish (K.ingest_facts ingest.entry.now)) (K.ingest_facts ingest.exit.now) }
         { K::finish(rt, lane, ingest) },
         &mut ||
-            requires { All (λ x. K.is_worker_of lane.now x × ((K.worker_facts x).held ≡ []) × ((K.worker_facts x).ended ≡ false)) workers.now }
-            ensures { (length workers.exit.now ≡ length workers.entry.now) × All (λ x. K.is_worker_of lane.entry.now x × ((K.worker_facts x).held ≡ []) × ((K.worker_facts x).ended ≡ true)) workers.exit.now
-                × ((w : ℕ) (x y : K.Worker) → slice_get workers.entry.now w ≡ Some x → slice_get workers.exit.now w ≡ Some y → (K.worker_facts y).place ≡ (K.worker_facts x).place) }
+            requires { All (λ x. K.is_worker_of lane.now x × ((K.worker_facts x).held ≡ [])
+                × ((K.worker_facts x).ended ≡ false)) workers.now }
+            ensures { (length workers.exit.now ≡ length workers.entry.now)
+                × All (λ x. K.is_worker_of lane.entry.now x × ((K.worker_facts x).held ≡ [])
+                × ((K.worker_facts x).ended ≡ true)) workers.exit.now
+                × ((w : ℕ) (x y : K.Worker) → slice_get workers.entry.now w ≡ Some x
+                → slice_get workers.exit.now w ≡ Some y → (K.worker_facts y).place ≡ (K.worker_facts x).place) }
         { drain_all::<K, R>(rt, lane, workers) },
     );
 }

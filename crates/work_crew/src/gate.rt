@@ -14,8 +14,8 @@ use std::thread;
 /// How often the send of a lane's second record looks whether the first was received.
 const MOST_TURNS: u32 = 50_000_000;
 
-/// A kit round a kit. The send of a lane's second record waits until the first was received, for at most 50,000,000 turns, and then
-/// goes on and counts a miss. Else its lanes are those of the kit.
+/// A kit round a kit. The send of a lane's second record waits until the first was received, for at most 50,000,000
+/// turns, and then goes on and counts a miss. Else its lanes are those of the kit.
 #[derive(Debug, Drop)]
 pub struct GateKit<K: LaneKit> {
     pub kit: K,
@@ -152,11 +152,16 @@ impl<K: LaneKit> LaneKit for GateKit<K> {
         workers: Vec<K::Worker>,
     )
         requires open_lane { 0 < K.open_lanes self.old.kit }
-        requires ingest { K.is_ingest_of lane.lane ingest × ((K.ingest_facts ingest).finished ≡ true) × ((K.ingest_facts ingest).held ≡ []) }
+        requires ingest { K.is_ingest_of lane.lane ingest × ((K.ingest_facts ingest).finished ≡ true)
+            × ((K.ingest_facts ingest).held ≡ []) }
         requires count { length workers.items ≡ length (K.lane_facts lane.lane).shares }
-        requires workers { (w : ℕ) (x : K.Worker) → slice_get workers.items w ≡ Some x → K.is_worker_of lane.lane x × ((K.worker_facts x).place ≡ w) × ((K.worker_facts x).ended ≡ true) × ((K.worker_facts x).held ≡ []) }
+        requires workers { (w : ℕ) (x : K.Worker) → slice_get workers.items w ≡ Some x
+            → K.is_worker_of lane.lane x × ((K.worker_facts x).place ≡ w) × ((K.worker_facts x).ended ≡ true)
+            × ((K.worker_facts x).held ≡ []) }
         ensures closed { K.open_lanes self.new.kit + 1 ≡ K.open_lanes self.old.kit }
-        ensures books { (b : LaneBook) × (K.books self.new.kit ≡ K.books self.old.kit ++ b ∷ []) × IsBookOf (K.lane_facts lane.lane) (K.ingest_facts ingest) (map (λ x. (K.worker_facts x).received) workers.items) b }
+        ensures books { (b : LaneBook) × (K.books self.new.kit ≡ K.books self.old.kit ++ b ∷ [])
+            × IsBookOf (K.lane_facts lane.lane) (K.ingest_facts ingest)
+            (map (λ x. (K.worker_facts x).received) workers.items) b }
     {
         let GateLane {
             lane,

@@ -9,7 +9,9 @@
 mod crew;
 mod done;
 mod draining;
+mod finishing;
 mod gate;
+mod pausing;
 mod row;
 mod sending;
 mod serving;
@@ -19,6 +21,7 @@ mod working;
 
 pub use crew::{LaneDone, run_lanes};
 pub use done::{run_crew, run_jobs};
+pub use finishing::push_values;
 pub use gate::{GateKit, GateLane};
 pub use sending::ingest;
 pub use working::worker;

@@ -1,5 +1,6 @@
 //! Seats and works, in rows.
-ghost use Rattle.std.specs.Prelude.{◌≡◌, ℕ, ◌+◌, ◌<◌, ◌≤◌, List, [], ◌∷◌, ◌++◌, length, Some, IfOk, slice_get, vec_len, vec_capacity};
+ghost use Rattle.std.specs.Prelude.{◌≡◌, ℕ, ◌+◌, ◌<◌, ◌≤◌, List, [], ◌∷◌, ◌++◌, length, Some, IfOk, slice_get, vec_len};
+ghost use Rattle.std.specs.Prelude.{vec_capacity};
 ghost use Rattle.work_crew.specs.Rows.{Each, HasPlaces, HasRoom, HasTaken, IsEmptied, IsTurned};
 ghost use Rattle.work_crew.specs.declared.row.Row.{Row};
 
@@ -30,7 +31,8 @@ fn move_row<S: Drop, W: Drop>(row: &mut Row<S, W>, columns: &mut [Row<S, W>])
     requires room { Each HasRoom columns.old }
     ensures count { length columns.new ≡ length columns.old }
     ensures emptied { IsEmptied row.old row.new }
-    ensures taken { (w : ℕ) (seat : S) (work : W) (old new : Row S W) → slice_get row.old.seats.items w ≡ Some seat → slice_get row.old.works.items w ≡ Some work
+    ensures taken { (w : ℕ) (seat : S) (work : W) (old new : Row S W) → slice_get row.old.seats.items w ≡ Some seat
+        → slice_get row.old.works.items w ≡ Some work
         → slice_get columns.old w ≡ Some old → slice_get columns.new w ≡ Some new → HasTaken seat work old new }
     ensures others { (w : ℕ) → length row.old.seats.items ≤ w → slice_get columns.new w ≡ slice_get columns.old w }
 {
@@ -43,7 +45,8 @@ fn move_row<S: Drop, W: Drop>(row: &mut Row<S, W>, columns: &mut [Row<S, W>])
     }
 }
 
-/// Moves what stands in rows into columns: what stands at place w of row t then stands at place t of column w. It takes no memory.
+/// Moves what stands in rows into columns: what stands at place w of row t then stands at place t of column w. It takes
+/// no memory.
 pub fn turn_round<S: Drop, W: Drop>(rows: &mut [Row<S, W>], columns: &mut [Row<S, W>])
     requires rows { Each (HasPlaces (length columns.old) 0) rows.old }
     requires columns { Each (HasPlaces 0 (length rows.old)) columns.old }

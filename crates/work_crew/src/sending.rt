@@ -1,5 +1,6 @@
 //! The ingest of a lane.
-ghost use Rattle.std.specs.Prelude.{◌≡◌, ◌≢◌, ℕ, ◌+◌, ◌-◌, ◌<◌, ◌≤◌, ◌%◌, true, false, List, [], ◌∷◌, ◌++◌, length, replicate, IfOk, OnErr, IfSome, IfNone, MatchOption, vec_len, vec_capacity};
+ghost use Rattle.std.specs.Prelude.{◌≡◌, ◌≢◌, ℕ, ◌+◌, ◌-◌, ◌<◌, ◌≤◌, ◌%◌, true, false, List, [], ◌∷◌, ◌++◌, length};
+ghost use Rattle.std.specs.Prelude.{replicate, IfOk, OnErr, IfSome, IfNone, MatchOption, vec_len, vec_capacity};
 ghost use Rattle.std.specs.List.{slice_index_or};
 ghost use Rattle.brick_base.specs.Flow.{class_view};
 ghost use Rattle.chain_types.specs.ChainParts.{dry_view};
@@ -8,16 +9,16 @@ ghost use Rattle.work_crew.specs.Records.{records_in, is_big, worker_of, waits, 
 ghost use Rattle.work_crew.specs.JobView.{job_view};
 ghost use Rattle.work_crew.specs.Ingested.{HasIngested, HasSentAll, HasClaimed, RefusedBy};
 
+use crate::pausing::pause;
 use brick_base::{NoMemory, Numbers};
 use chain_types::Dry;
 use lane_core::LaneKit;
 use packet_owner::{Buffer, Packet};
 use std::alloc::Global;
 use std::sync::Wait;
-use std::thread;
 use work_core::TenantJob;
 
-/// Claims until a buffer comes. Where none came, others may go on before it claims again.
+/// Claims until a buffer comes. Where none came, others may go on before it claims again, for longer each time.
 fn claim_one<K: LaneKit, R: Wait>(rt: &R, lane: &K::Lane, seat: &mut K::Ingest) -> Buffer
     requires own { K.is_ingest_of lane.now seat.old }
     requires room { length (K.ingest_facts seat.old).held < (K.lane_facts lane.now).buffers }
@@ -25,11 +26,12 @@ fn claim_one<K: LaneKit, R: Wait>(rt: &R, lane: &K::Lane, seat: &mut K::Ingest) 
     ensures room { result.room ≡ (K.lane_facts lane.now).bytes }
     ensures claimed { HasClaimed result.slot (K.ingest_facts seat.old) (K.ingest_facts seat.new) }
 {
+    let mut misses = 0;
     for _ in rt.forever() {
         if let Some(buffer) = K::claim(rt, lane, seat) {
             return buffer;
         }
-        thread::yield_now();
+        misses = pause(misses);
     }
     unreachable!()
 }
@@ -54,9 +56,13 @@ fn claim_for<K: LaneKit, R: Wait>(
     requires own { K.is_ingest_of lane.now seat.old }
     requires room { length (K.ingest_facts seat.old).held < (K.lane_facts lane.now).buffers }
     ensures own { K.is_ingest_of lane.now seat.new }
-    ensures given { IfSome result (λ b. (b.room ≡ (K.lane_facts lane.now).bytes) × HasClaimed b.slot (K.ingest_facts seat.old) (K.ingest_facts seat.new)) }
-    ensures kept { waits (dry_view dry) ≡ false → IfSome result (λ b. (K.ingest_facts seat.new).missed ≡ (K.ingest_facts seat.old).missed) }
-    ensures refused { IfNone result (RefusedBy (K.lane_facts lane.now).buffers (waits (dry_view dry)) (K.ingest_facts seat.old) (K.ingest_facts seat.new)) }
+    ensures given { IfSome result (λ b. (b.room ≡ (K.lane_facts lane.now).bytes)
+        × HasClaimed b.slot (K.ingest_facts seat.old) (K.ingest_facts seat.new)) }
+    ensures kept { waits (dry_view dry) ≡ false
+        → IfSome result (λ b. (K.ingest_facts seat.new).missed ≡ (K.ingest_facts seat.old).missed) }
+    ensures refused { IfNone result
+        (RefusedBy (K.lane_facts lane.now).buffers (waits (dry_view dry)) (K.ingest_facts seat.old)
+        (K.ingest_facts seat.new)) }
 {
     match dry {
         Dry::Wait => Some(claim_one::<K, R>(rt, lane, seat)),
@@ -119,9 +125,11 @@ fn send_all<K: LaneKit, R: Wait>(
     requires before { HasIngested (job_view job.now) workers 0 refused.old.items (K.ingest_facts seat.old) }
     requires going { (K.ingest_facts seat.old).finished ≡ false }
     requires empty { vec_len refused.old ≡ 0 }
-    requires room { waits (dry_view job.now.chain.dry) ≡ false → length job.now.capture.entries ≤ vec_capacity refused.old }
+    requires room { waits (dry_view job.now.chain.dry) ≡ false
+        → length job.now.capture.entries ≤ vec_capacity refused.old }
     ensures own { K.is_ingest_of lane.now seat.new }
-    ensures after { HasIngested (job_view job.now) workers (length job.now.capture.entries) refused.new.items (K.ingest_facts seat.new) }
+    ensures after { HasIngested (job_view job.now) workers (length job.now.capture.entries) refused.new.items
+        (K.ingest_facts seat.new) }
     ensures going { (K.ingest_facts seat.new).finished ≡ false }
 {
     'each: for k in 0..job.capture.count() {
@@ -139,8 +147,8 @@ fn most_refused(job: &TenantJob) -> usize
     }
 }
 
-/// Sends the records of a job in order, each to the worker that its flow's hash names, and finishes. Answers which were refused for want of
-/// a buffer. Where memory runs out nothing is sent.
+/// Sends the records of a job in order, each to the worker that its flow's hash names, and finishes. Answers which were
+/// refused for want of a buffer. Where memory runs out nothing is sent.
 pub fn ingest<K: LaneKit, R: Wait>(
     rt: &R,
     alloc: Global,

@@ -37,7 +37,8 @@ fn gather<K: LaneKit, R: Wait>(
     requires rests { ((K.worker_facts seat.old).held ≡ []) × ((K.worker_facts seat.old).ended ≡ false) }
     requires empty { batch.old ≡ [] }
     ensures own { K.is_worker_of lane.now seat.new }
-    ensures gathered { HasGathered (job_view job.now) (K.lane_facts lane.now).bytes (K.worker_facts seat.old) (K.worker_facts seat.new) batch.new result }
+    ensures gathered { HasGathered (job_view job.now) (K.lane_facts lane.now).bytes (K.worker_facts seat.old)
+        (K.worker_facts seat.new) batch.new result }
 {
     'each: for done in 0..32u32 {
         match K::receive(rt, lane, seat) {
@@ -61,7 +62,8 @@ fn give_back<K: LaneKit, R: Wait>(
     returned: &mut Returned,
 )
     requires own { K.is_worker_of lane.now seat.old }
-    requires slots { (i : ℕ) → times i (map (λ (b : BufferModel). b.slot) returned.old) ≡ times i (K.worker_facts seat.old).held }
+    requires slots { (i : ℕ)
+        → times i (map (λ (b : BufferModel). b.slot) returned.old) ≡ times i (K.worker_facts seat.old).held }
     requires rooms { All (λ (b : BufferModel). b.room ≡ (K.lane_facts lane.now).bytes) returned.old }
     ensures own { K.is_worker_of lane.now seat.new }
     ensures given { HasGivenBack (K.worker_facts seat.old) (K.worker_facts seat.new) }
@@ -74,8 +76,8 @@ fn give_back<K: LaneKit, R: Wait>(
 /// What came of a lane's turn at a worker.
 #[derive(Clone, Copy, Debug, PartialEq, Eq)]
 pub struct Turn {
-    /// Whether the batch was full, so that more may be there.
-    pub full: bool,
+    /// How many packets came. Where there are 32 more may be there.
+    pub packets: usize,
     /// Whether END was taken.
     pub ended: bool,
 }
@@ -92,7 +94,8 @@ pub fn serve<K: LaneKit, W: ChainWork, R: Wait>(
     requires own { K.is_worker_of lane.now seat.old }
     requires capture { (K.lane_facts lane.now).capture ≡ job.now.capture }
     requires going { (K.worker_facts seat.old).ended ≡ false }
-    requires worked { HasWorked W.ready W.stands W.ended W.broken (job_view job.now) (K.worker_facts seat.old) work.old }
+    requires worked { HasWorked W.ready W.stands W.ended W.broken (job_view job.now)
+        (K.worker_facts seat.old) work.old }
     ensures own { K.is_worker_of lane.now seat.new }
     ensures ended { (K.worker_facts seat.new).ended ≡ result.ended }
     ensures place { (K.worker_facts seat.new).place ≡ (K.worker_facts seat.old).place }
@@ -101,14 +104,11 @@ pub fn serve<K: LaneKit, W: ChainWork, R: Wait>(
 {
     let mut batch = Batch::new();
     let ended = gather::<K, R>(rt, lane, seat, job, &mut batch);
-    let count = batch.len();
-    if count == 0 {
-        return Turn { full: false, ended };
+    let packets = batch.len();
+    if packets == 0 {
+        return Turn { packets, ended };
     }
     let mut returned = work.turn(alloc, batch);
     give_back::<K, R>(rt, lane, seat, &mut returned);
-    Turn {
-        full: count == 32,
-        ended,
-    }
+    Turn { packets, ended }
 }

@@ -1,5 +1,6 @@
 //! Lanes that are started together. Where one is refused, those before it are ended unused.
-ghost use Rattle.std.specs.Prelude.{◌≡◌, ℕ, ◌+◌, ◌<◌, ◌≤◌, true, false, List, [], ◌∷◌, ◌++◌, length, map, take, Some, IfOk, OnOk, OnErr, slice_get, slice_index, vec_len, vec_capacity};
+ghost use Rattle.std.specs.Prelude.{◌≡◌, ℕ, ◌+◌, ◌<◌, ◌≤◌, true, false, List, [], ◌∷◌, ◌++◌, length, map, take, Some};
+ghost use Rattle.std.specs.Prelude.{IfOk, OnOk, OnErr, slice_get, slice_index, vec_len, vec_capacity};
 ghost use Rattle.std.specs.List.{AllZip};
 ghost use Rattle.lane_spec.specs.LaneBook.{LaneBook};
 ghost use Rattle.run_spec.specs.Books.{IsPartBook};
@@ -26,7 +27,8 @@ fn undo_one<K: LaneKit, R: Threads + Wait + Sync>(
     workers: u32,
 )
     requires open { 1 ≤ K.open_lanes kit.old }
-    requires started { IsStarted K.is_ingest_of K.is_worker_of K.lane_facts K.ingest_facts K.worker_facts workers job.now side }
+    requires started { IsStarted K.is_ingest_of K.is_worker_of K.lane_facts K.ingest_facts K.worker_facts workers
+        job.now side }
     ensures closed { K.open_lanes kit.new + 1 ≡ K.open_lanes kit.old }
     ensures book { (b : LaneBook) × (K.books kit.new ≡ K.books kit.old ++ b ∷ []) × IsUnusedBook workers job.now b }
 {
@@ -49,9 +51,12 @@ fn undo_all<K: LaneKit, R: Threads + Wait + Sync>(
 )
     requires open { length lanes.items ≤ K.open_lanes kit.old }
     requires few { length lanes.items ≤ length jobs.now }
-    requires started { Members (IsStarted K.is_ingest_of K.is_worker_of K.lane_facts K.ingest_facts K.worker_facts workers) jobs.now lanes.items }
+    requires started { Members
+        (IsStarted K.is_ingest_of K.is_worker_of K.lane_facts K.ingest_facts K.worker_facts workers) jobs.now
+        lanes.items }
     ensures closed { K.open_lanes kit.new + length lanes.items ≡ K.open_lanes kit.old }
-    ensures books { (bs : List LaneBook) × (K.books kit.new ≡ K.books kit.old ++ bs) × (length bs ≡ length lanes.items) × Members (IsUnusedBook workers) jobs.now bs }
+    ensures books { (bs : List LaneBook) × (K.books kit.new ≡ K.books kit.old ++ bs) × (length bs ≡ length lanes.items)
+        × Members (IsUnusedBook workers) jobs.now bs }
 {
     let mut rest = lanes;
     if let Some(last) = rest.pop() {
@@ -64,7 +69,9 @@ fn undo_all<K: LaneKit, R: Threads + Wait + Sync>(
 /// How many records go to each worker.
 fn shares_of(job: &TenantJob, workers: u32) -> [u32; 16]
     requires some { (1 ≤ workers) × (workers ≤ 16) }
-    ensures { (w : ℕ) → w < workers → slice_index result w ≡ length (numbers_where (of_worker (job_view job.now) workers w) (records_in (job_view job.now))) }
+    ensures { (w : ℕ) → w < workers
+        → slice_index result w ≡ length
+        (numbers_where (of_worker (job_view job.now) workers w) (records_in (job_view job.now))) }
 {
     let mut shares = [0; 16];
     'each: for k in 0..job.capture.count() {
@@ -86,7 +93,8 @@ fn start_one<K: LaneKit, R: Wait>(
     ensures books { K.books kit.new ≡ K.books kit.old }
     ensures opened { OnOk result (K.open_lanes kit.new ≡ K.open_lanes kit.old + 1) }
     ensures no_memory { OnErr result (K.open_lanes kit.new ≡ K.open_lanes kit.old) }
-    ensures started { IfOk result (λ x. IsStarted K.is_ingest_of K.is_worker_of K.lane_facts K.ingest_facts K.worker_facts workers job.now x) }
+    ensures started { IfOk result
+        (λ x. IsStarted K.is_ingest_of K.is_worker_of K.lane_facts K.ingest_facts K.worker_facts workers job.now x) }
 {
     let shares = shares_of(job, workers);
     kit.start(
@@ -125,7 +133,9 @@ fn start_each<K: LaneKit, R: Wait>(
     ensures books { K.books kit.new ≡ K.books kit.old }
     ensures open { K.open_lanes kit.new ≡ K.open_lanes kit.old + length lanes.new.items }
     ensures few { length lanes.new.items ≤ length jobs.now }
-    ensures started { Members (IsStarted K.is_ingest_of K.is_worker_of K.lane_facts K.ingest_facts K.worker_facts workers) jobs.now lanes.new.items }
+    ensures started { Members
+        (IsStarted K.is_ingest_of K.is_worker_of K.lane_facts K.ingest_facts K.worker_facts workers) jobs.now
+        lanes.new.items }
     ensures all { OnOk result (length lanes.new.items ≡ length jobs.now) }
 {
     'each: for t in 0..jobs.len() {
@@ -147,9 +157,12 @@ pub fn start_all<K: LaneKit, R: Threads + Wait + Sync>(
     ensures books { OnOk result (K.books kit.new ≡ K.books kit.old) }
     ensures open { IfOk result (λ lanes. K.open_lanes kit.new ≡ K.open_lanes kit.old + length lanes.items) }
     ensures count { IfOk result (λ lanes. length lanes.items ≡ length jobs.now) }
-    ensures started { IfOk result (λ lanes. Members (IsStarted K.is_ingest_of K.is_worker_of K.lane_facts K.ingest_facts K.worker_facts workers) jobs.now lanes.items) }
+    ensures started { IfOk result
+        (λ lanes. Members (IsStarted K.is_ingest_of K.is_worker_of K.lane_facts K.ingest_facts K.worker_facts workers)
+        jobs.now lanes.items) }
     ensures closed { OnErr result (K.open_lanes kit.new ≡ K.open_lanes kit.old) }
-    ensures no_memory { OnErr result ((bs : List LaneBook) × (K.books kit.new ≡ K.books kit.old ++ bs) × AllZip (IsPartBook workers) (take (length bs) (map job_view jobs.now)) bs) }
+    ensures no_memory { OnErr result ((bs : List LaneBook) × (K.books kit.new ≡ K.books kit.old ++ bs)
+        × AllZip (IsPartBook workers) (take (length bs) (map job_view jobs.now)) bs) }
 {
     let mut lanes = Vec::with_capacity(alloc, jobs.len())?;
     match start_each::<K, R>(rt, alloc, kit, jobs, workers, &mut lanes) {
