@@ -19,17 +19,20 @@ abbrev pub IsLeafSound : Option NatPlan → ℕ → ℕ → ℕ → Leaf → Typ
 IsLeafSound nat count bytes before l = AreSound nat count bytes before l.stages
 
 abbrev pub AreLeavesSound : Option NatPlan → ℕ → ℕ → ℕ → List Leaf → Type 0
-AreLeavesSound nat count bytes before leaves = (1 ≤ length leaves) × (length leaves ≤ 4) × AllByRecursion (IsLeafSound nat count bytes before) leaves
+AreLeavesSound nat count bytes before leaves =
+    (1 ≤ length leaves) × (length leaves ≤ 4) × AllByRecursion (IsLeafSound nat count bytes before) leaves
 
 abbrev pub IsBelowSound : Option NatPlan → ℕ → ℕ → ℕ → Below → Type 0
 IsBelowSound nat count bytes before (Output o) = Unit {0}
 IsBelowSound nat count bytes before (Inner leaves) = AreLeavesSound nat count bytes before leaves
 
 abbrev pub IsGroupSound : Option NatPlan → ℕ → ℕ → ℕ → Group → Type 0
-IsGroupSound nat count bytes before g = AreSound nat count bytes before g.stages × IsBelowSound nat count bytes (before + windows_in g.stages) g.below
+IsGroupSound nat count bytes before g =
+    AreSound nat count bytes before g.stages × IsBelowSound nat count bytes (before + windows_in g.stages) g.below
 
 abbrev pub IsChainSound : ℕ → ℕ → Chain → Type 0
-IsChainSound count bytes chain = AreSound chain.nat count bytes 0 chain.stages × AllByRecursion (IsGroupSound chain.nat count bytes (windows_in chain.stages)) chain.groups
+IsChainSound count bytes chain = AreSound chain.nat count bytes 0 chain.stages
+    × AllByRecursion (IsGroupSound chain.nat count bytes (windows_in chain.stages)) chain.groups
 
 -- no window stands there
 abbrev pub IsBareLeaf : Leaf → Type 0
@@ -61,7 +64,8 @@ BelowFits count bytes (Inner leaves) = AllByRecursion (LeafFits count bytes) lea
 abbrev pub GroupFits : ℕ → ℕ → Group → Type 0
 GroupFits count bytes g = WindowsFit count bytes g.stages × BelowFits count bytes g.below
 
--- No window of a chain needs more: data ends at most 1,048,576 bytes behind the first gap, and a window has 64 to 1,460.
+-- No window of a chain needs more: data ends at most 1,048,576 bytes behind the first gap, and a window has 64 to
+-- 1,460.
 abbrev pub IsFew : ℕ → ℕ → Type 0
 IsFew count bytes = (count ≤ 16385) × (bytes ≤ 1514)
 

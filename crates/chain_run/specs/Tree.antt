@@ -42,7 +42,8 @@ module _ {P : Type 0} (m : Meaning P) where
   leaf_results t = list_results t.next
 
   abbrev pub leaf_serves : Pipe P LeafList → ℕ → ℕ → ℕ → Type 0
-  leaf_serves t count bytes free = PipeServes m.ready m.spares m.least_room list_serves t.path t.next t.waiting.items (vec_capacity t.waiting) count bytes free
+  leaf_serves t count bytes free = PipeServes m.ready m.spares m.least_room list_serves t.path t.next t.waiting.items
+      (vec_capacity t.waiting) count bytes free
 
   -- GROUPS IN A GROUP
 
@@ -112,10 +113,12 @@ module _ {P : Type 0} (m : Meaning P) where
   root_stands t flow came parts = PipeStands m.stands groups_stand t.path t.next flow came parts
 
   abbrev pub root_makes : Pipe P (Fan (GroupNode P)) → made.Meaning
-  root_makes t = pipe_makes m.row (λ (f : Fan (GroupNode P)). fan_makes group_makes f.groups f.places.items) t.path t.next
+  root_makes t =
+      pipe_makes m.row (λ (f : Fan (GroupNode P)). fan_makes group_makes f.groups f.places.items) t.path t.next
 
   abbrev pub root_results : Pipe P (Fan (GroupNode P)) → List (List Item)
   root_results t = groups_results t.next
 
   abbrev pub root_serves : Pipe P (Fan (GroupNode P)) → ℕ → ℕ → ℕ → Type 0
-  root_serves t count bytes free = PipeServes m.ready m.spares m.least_room groups_serve t.path t.next t.waiting.items (vec_capacity t.waiting) count bytes free
+  root_serves t count bytes free = PipeServes m.ready m.spares m.least_room groups_serve t.path t.next t.waiting.items
+      (vec_capacity t.waiting) count bytes free

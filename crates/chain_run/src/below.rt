@@ -29,7 +29,9 @@ pub fn build_leaf<P: StagesPath>(
     leaf: &Leaf,
 ) -> Result<Pipe<P, LeafList>, NoMemory>
     requires { IsLeafSound (option_map plan_view site.now.nat) site.now.count site.now.bytes 0 (leaf_view leaf.now) }
-    ensures { IfOk result (λ t. LeafBuilt P.Operator.meaning (option_map plan_view site.now.nat) site.now.count site.now.bytes (leaf_view leaf.now) t) }
+    ensures { IfOk result
+        (λ t. LeafBuilt P.Operator.meaning (option_map plan_view site.now.nat) site.now.count site.now.bytes
+        (leaf_view leaf.now) t) }
 {
     let path = P::of_stages(alloc, site, Unparsed::Pass, leaf.stages.as_slice())?;
     Pipe::new(alloc, path, LeafList::new(alloc), site.count)
@@ -37,7 +39,8 @@ pub fn build_leaf<P: StagesPath>(
 
 /// What the groups in a group take.
 fn leaf_matches(alloc: Global, leaves: &[Leaf]) -> Result<Vec<Option<Match>>, NoMemory>
-    ensures { IfOk result (λ ms. map (option_map match_view) ms.items ≡ map (λ l. l.wanted) (map leaf_view leaves.now)) }
+    ensures { IfOk result (λ ms. map (option_map match_view) ms.items
+        ≡ map (λ l. l.wanted) (map leaf_view leaves.now)) }
 {
     let mut matches = Vec::new(alloc);
     for leaf in leaves {
@@ -52,8 +55,11 @@ fn leaf_places<P: StagesPath>(
     site: &Site,
     leaves: &[Leaf],
 ) -> Result<Vec<Pipe<P, LeafList>>, NoMemory>
-    requires { AllByRecursion (IsLeafSound (option_map plan_view site.now.nat) site.now.count site.now.bytes 0) (map leaf_view leaves.now) }
-    ensures { IfOk result (λ ts. AreBuilt (LeafBuilt P.Operator.meaning (option_map plan_view site.now.nat) site.now.count site.now.bytes) (map leaf_view leaves.now) ts.items) }
+    requires { AllByRecursion (IsLeafSound (option_map plan_view site.now.nat) site.now.count site.now.bytes 0)
+        (map leaf_view leaves.now) }
+    ensures { IfOk result
+        (λ ts. AreBuilt (LeafBuilt P.Operator.meaning
+        (option_map plan_view site.now.nat) site.now.count site.now.bytes) (map leaf_view leaves.now) ts.items) }
 {
     let mut places = Vec::new(alloc);
     for leaf in leaves {
@@ -69,8 +75,11 @@ fn build_leaves<P: StagesPath>(
     site: &Site,
     leaves: &[Leaf],
 ) -> Result<Fan<Pipe<P, LeafList>>, NoMemory>
-    requires { AreLeavesSound (option_map plan_view site.now.nat) site.now.count site.now.bytes 0 (map leaf_view leaves.now) }
-    ensures { IfOk result (λ f. LeavesBuilt P.Operator.meaning (option_map plan_view site.now.nat) site.now.count site.now.bytes (map leaf_view leaves.now) f) }
+    requires { AreLeavesSound (option_map plan_view site.now.nat) site.now.count site.now.bytes 0
+        (map leaf_view leaves.now) }
+    ensures { IfOk result
+        (λ f. LeavesBuilt P.Operator.meaning (option_map plan_view site.now.nat) site.now.count site.now.bytes
+        (map leaf_view leaves.now) f) }
 {
     let matches = leaf_matches(alloc, leaves)?;
     let places = leaf_places(alloc, site, leaves)?;
@@ -85,7 +94,9 @@ pub fn build_below<P: StagesPath>(
     below: &Below,
 ) -> Result<Either<LeafList, Fan<Pipe<P, LeafList>>>, NoMemory>
     requires { IsBelowSound (option_map plan_view site.now.nat) site.now.count site.now.bytes 0 (below_view below.now) }
-    ensures { IfOk result (λ t. BelowBuilt P.Operator.meaning (option_map plan_view site.now.nat) site.now.count site.now.bytes (below_view below.now) t) }
+    ensures { IfOk result
+        (λ t. BelowBuilt P.Operator.meaning (option_map plan_view site.now.nat) site.now.count site.now.bytes
+        (below_view below.now) t) }
 {
     match below {
         Below::Output(_output) => Ok(Either::First(LeafList::new(alloc))),

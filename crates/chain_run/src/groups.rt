@@ -34,7 +34,9 @@ pub fn build_group<P: StagesPath>(
     NoMemory,
 >
     requires { IsGroupSound (option_map plan_view site.now.nat) site.now.count site.now.bytes 0 (group_view group.now) }
-    ensures { IfOk result (λ t. GroupBuilt P.Operator.meaning (option_map plan_view site.now.nat) site.now.count site.now.bytes (group_view group.now) t) }
+    ensures { IfOk result
+        (λ t. GroupBuilt P.Operator.meaning (option_map plan_view site.now.nat) site.now.count site.now.bytes
+        (group_view group.now) t) }
 {
     let next = build_below(alloc, site, &group.below)?;
     if group.stages.is_empty() {
@@ -47,7 +49,8 @@ pub fn build_group<P: StagesPath>(
 
 /// What the groups take.
 fn group_matches(alloc: Global, groups: &[Group]) -> Result<Vec<Option<Match>>, NoMemory>
-    ensures { IfOk result (λ ms. map (option_map match_view) ms.items ≡ map (λ g. g.wanted) (map group_view groups.now)) }
+    ensures { IfOk result (λ ms. map (option_map match_view) ms.items
+        ≡ map (λ g. g.wanted) (map group_view groups.now)) }
 {
     let mut matches = Vec::new(alloc);
     for group in groups {
@@ -70,8 +73,11 @@ fn group_places<P: StagesPath>(
     >,
     NoMemory,
 >
-    requires { AllByRecursion (IsGroupSound (option_map plan_view site.now.nat) site.now.count site.now.bytes 0) (map group_view groups.now) }
-    ensures { IfOk result (λ ts. AreBuilt (GroupBuilt P.Operator.meaning (option_map plan_view site.now.nat) site.now.count site.now.bytes) (map group_view groups.now) ts.items) }
+    requires { AllByRecursion (IsGroupSound (option_map plan_view site.now.nat) site.now.count site.now.bytes 0)
+        (map group_view groups.now) }
+    ensures { IfOk result
+        (λ ts. AreBuilt (GroupBuilt P.Operator.meaning
+        (option_map plan_view site.now.nat) site.now.count site.now.bytes) (map group_view groups.now) ts.items) }
 {
     let mut places = Vec::new(alloc);
     for group in groups {
@@ -96,8 +102,11 @@ pub fn build_groups<P: StagesPath>(
     NoMemory,
 >
     requires many { (1 ≤ length groups.now) × (length groups.now ≤ 16) }
-    requires sound { AllByRecursion (IsGroupSound (option_map plan_view site.now.nat) site.now.count site.now.bytes 0) (map group_view groups.now) }
-    ensures { IfOk result (λ f. GroupsBuilt P.Operator.meaning (option_map plan_view site.now.nat) site.now.count site.now.bytes (map group_view groups.now) f) }
+    requires sound { AllByRecursion (IsGroupSound (option_map plan_view site.now.nat) site.now.count site.now.bytes 0)
+        (map group_view groups.now) }
+    ensures { IfOk result
+        (λ f. GroupsBuilt P.Operator.meaning (option_map plan_view site.now.nat) site.now.count site.now.bytes
+        (map group_view groups.now) f) }
 {
     let matches = group_matches(alloc, groups)?;
     let places = group_places(alloc, site, groups)?;

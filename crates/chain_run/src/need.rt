@@ -7,7 +7,8 @@ ghost use Rattle.chain_types.specs.BelowView.{leaf_view, below_view};
 ghost use Rattle.chain_types.specs.GroupView.{group_view};
 ghost use Rattle.chain_types.specs.StageView.{stage_view, stages_view};
 ghost use Rattle.chain_types.specs.View.{chain_view};
-ghost use Rattle.chain_run.specs.Sound.{WindowFits, WindowsFit, LeafFits, BelowFits, GroupFits, IsFew, IsMore, IsChainSound};
+ghost use Rattle.chain_run.specs.Sound.{WindowFits, WindowsFit, LeafFits, BelowFits, GroupFits, IsFew, IsMore};
+ghost use Rattle.chain_run.specs.Sound.{IsChainSound};
 
 use chain_types::{Below, Chain, Group, Leaf, Stage};
 

@@ -9,6 +9,7 @@ ghost use Rattle.chain_run.specs.Sound.{WindowFits};
 
 use crate::paths::{Site, StagesPath};
 use crate::plain::{add_plain, first_stages};
+use crate::root::RootPlace;
 use crate::tree_work::TreeWork;
 use batch_ops::Then;
 use brick_base::NoMemory;
@@ -23,7 +24,7 @@ use window_stage::WindowStage;
 pub type ChainPath = StagePath<PlainStage, WindowStage>;
 
 /// A tenant's chain at work.
-pub type TenantWork = TreeWork<StagePath<PlainStage, WindowStage>>;
+pub type TenantWork = TreeWork<RootPlace<StagePath<PlainStage, WindowStage>>>;
 
 /// Whether it is a window.
 fn is_window(stage: &Stage) -> bool
@@ -65,7 +66,8 @@ fn stages_behind(stages: &[Stage], at: usize) -> &[Stage]
 fn window_of(alloc: Global, stage: &Stage) -> WindowStage
     requires window { IsTrue (spec.is_window (stage_view stage.now)) }
     requires right { IsTrue (spec.is_stage_right (stage_view stage.now)) }
-    ensures { (count bytes : ℕ) → WindowFits count bytes (stage_view stage.now) → WindowBuilt count bytes (stage_view stage.now) result }
+    ensures { (count bytes : ℕ) → WindowFits count bytes (stage_view stage.now)
+        → WindowBuilt count bytes (stage_view stage.now) result }
 {
     match stage {
         Stage::Window { size, reach } => WindowStage::new(alloc, *size, *reach),

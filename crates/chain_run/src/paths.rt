@@ -26,7 +26,8 @@ pub struct Site {
 
 /// Stages of a chain, one after another.
 pub trait StagesPath: Direct + Drop {
-    /// The path of these stages, to which nothing came. What has no IPv4 layer is dropped before the first, where that is asked.
+    /// The path of these stages, to which nothing came. What has no IPv4 layer is dropped before the first, where that
+    /// is asked.
     fn of_stages(
         alloc: Global,
         site: &Site,
@@ -34,6 +35,9 @@ pub trait StagesPath: Direct + Drop {
         stages: &[Stage],
     ) -> Result<Self, NoMemory>
         requires right { IsTrue (are_stages_right (stages_view stages.now)) }
-        requires sound { AreSound (option_map plan_view site.now.nat) site.now.count site.now.bytes 0 (stages_view stages.now) }
-        ensures { IfOk result (λ p. IsPath Self.Operator.meaning (option_map plan_view site.now.nat) site.now.count site.now.bytes (before_stages (unparsed_view unparsed)) (stages_view stages.now) p) };
+        requires sound { AreSound (option_map plan_view site.now.nat) site.now.count site.now.bytes 0
+            (stages_view stages.now) }
+        ensures { IfOk result
+            (λ p. IsPath Self.Operator.meaning (option_map plan_view site.now.nat) site.now.count site.now.bytes
+            (before_stages (unparsed_view unparsed)) (stages_view stages.now) p) };
 }

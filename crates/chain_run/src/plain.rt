@@ -27,7 +27,8 @@ fn firewall_of(
     established: bool,
     rules: &[Rule],
 ) -> Result<PlainStage, NoMemory>
-    ensures { IfOk result (λ p. (nat : Option NatPlanMeaning) → PlainBuilt nat (spec.Firewall (verdict_view default) established (map rule_view rules.now)) p) }
+    ensures { IfOk result (λ p. (nat : Option NatPlanMeaning)
+        → PlainBuilt nat (spec.Firewall (verdict_view default) established (map rule_view rules.now)) p) }
 {
     let rows = rules.to_vec(alloc)?;
     let stage = FirewallStage::new(alloc, Rules::new(rows, default), established)?;
@@ -41,7 +42,8 @@ fn balance_of(
     changes: &[Change],
 ) -> Result<PlainStage, NoMemory>
     requires { IsTrue (spec.is_stage_right (spec.Balance (backends_view backends.now) (map change_view changes.now))) }
-    ensures { IfOk result (λ p. (nat : Option NatPlanMeaning) → PlainBuilt nat (spec.Balance (backends_view backends.now) (map change_view changes.now)) p) }
+    ensures { IfOk result (λ p. (nat : Option NatPlanMeaning)
+        → PlainBuilt nat (spec.Balance (backends_view backends.now) (map change_view changes.now)) p) }
 {
     let stage = BalanceStage::new(alloc, backends, changes)?;
     Ok(PlainStage::Balance(stage))
@@ -95,7 +97,8 @@ pub(crate) fn add_plain(
     plain: &mut Vec<PlainStage>,
 ) -> Result<(), NoMemory>
     requires { ArePlain (option_map plan_view nat.now) (stages_view stages.now) }
-    ensures { OnOk result (AddsPlain (option_map plan_view nat.now) (stages_view stages.now) plain.old.items plain.new.items) }
+    ensures { OnOk result
+        (AddsPlain (option_map plan_view nat.now) (stages_view stages.now) plain.old.items plain.new.items) }
 {
     for stage in stages {
         let one = plain_of(alloc, nat, stage)?;

@@ -33,6 +33,7 @@ pub record HasJoined (l : QueueLane) (n : ℕ) (i : QueueIngest) : Type 0 where
   pub long : (length i.sent.items ≡ length l.shares.items) × (length i.rings.items ≡ length l.shares.items)
   pub same : (w : ℕ) → w < n → log_of (pairs_in i.received.items) w ≡ log_of (pairs_in i.sent.items) w
   -- the rings of the other workers are as they were
-  pub left : Each (λ w q p. n ≤ w → IsSender (lane_of l) w (log_of (pairs_in i.sent.items) w) true q p) l.rings.items i.rings.items
+  pub left : Each (λ w q p. n ≤ w
+      → IsSender (lane_of l) w (log_of (pairs_in i.sent.items) w) true q p) l.rings.items i.rings.items
   pub home : (i.home.items ≡ []) × (l.buffers ≤ vec_capacity i.home)
   pub room : length l.shares.items ≤ vec_capacity i.received

@@ -1,5 +1,6 @@
 -- The rule of a ring on a queue: what was got is a prefix of what was sent, and END stands behind it.
-use Rattle.std.specs.Prelude.{◌≡◌, ◌⊎◌, ℕ, ◌<◌, ◌≤◌, Bool, true, false, List, [], ◌∷◌, ◌++◌, map, length, Option, Some, None}
+use Rattle.std.specs.Prelude.{◌≡◌, ◌⊎◌, ℕ, ◌<◌, ◌≤◌, Bool, true, false, List, [], ◌∷◌, ◌++◌, map, length, Option, Some}
+use Rattle.std.specs.Prelude.{None}
 use mathlib.Core.Option.{some}
 use lib.ListN.{get_elem?}
 use Rattle.packet_owner.specs.Packet.{PacketModel}
@@ -13,7 +14,15 @@ use Rattle.lane_queue.specs.declared.ring_rule.RingView.{RingView}
 -- VIEWS
 
 abbrev pub ring_view : Bool → Bool → List Pair → List Pair → Bool → Bool → Option RingAbout → RingView
-ring_view sends gets sent got put taken about = record { sends = sends; gets = gets; sent = sent; got = got; put = put; taken = taken; about = about }
+ring_view sends gets sent got put taken about = record {
+  sends = sends;
+  gets = gets;
+  sent = sent;
+  got = got;
+  put = put;
+  taken = taken;
+  about = about;
+}
 
 -- before its worker has a pass
 abbrev pub first_view : RingView
@@ -62,7 +71,8 @@ tail_of true true = []
 tail_of false _ = []
 
 -- one pass at most sends, and it has what was sent; one at most gets, and it has what was got
-pub record Stands (sender getter : ℕ) (sent got : List Pair) (put taken : Bool) (about : RingAbout) (id : ℕ) (v : RingView) : Type 0 where
+pub record Stands (sender getter : ℕ) (sent got : List Pair) (put taken : Bool) (about : RingAbout) (id : ℕ)
+    (v : RingView) : Type 0 where
   pub sends : v.sends ≡ true → (id ≡ sender) × (v.sent ≡ sent) × (v.put ≡ put) × (v.about ≡ Some about)
   pub gets : v.gets ≡ true → (id ≡ getter) × (v.got ≡ got) × (v.taken ≡ taken) × (v.about ≡ Some about)
 
@@ -85,7 +95,8 @@ pub record OpenRing (items : List Item) (views : List RingView) : Type 0 where
   pub share : length sent ≤ about.share
   pub fit : AllFit about packets
   pub done : taken ≡ true → (put ≡ true) × (packets ≡ [])
-  pub stands : (id : ℕ) (v : RingView) → get_elem? views id ≡ some v → Stands sender getter sent got put taken about id v
+  pub stands : (id : ℕ) (v : RingView) → get_elem? views id ≡ some v
+      → Stands sender getter sent got put taken about id v
 
 -- before the ring is shared one pass has both roles, and nothing lies there
 abbrev pub NewRing : List Item → List RingView → Type 0

@@ -1,5 +1,6 @@
 //! The kit of lanes on queues.
-ghost use Rattle.std.specs.Prelude.{◌≡◌, ℕ, ◌+◌, ◌<◌, ◌≤◌, true, List, [], ◌∷◌, ◌++◌, map, length, slice_get, Some, vec_len, vec_capacity};
+ghost use Rattle.std.specs.Prelude.{◌≡◌, ℕ, ◌+◌, ◌<◌, ◌≤◌, true, List, [], ◌∷◌, ◌++◌, map, length, slice_get, Some};
+ghost use Rattle.std.specs.Prelude.{vec_len, vec_capacity};
 
 use crate::lane::{QueueIngest, QueueLane, QueueWorker};
 use crate::pool::{put, take};
@@ -162,11 +163,14 @@ impl LaneKit for QueueKit {
         workers: Vec<QueueWorker>,
     )
         requires open_lane { 0 < open_lanes_of self.old }
-        requires ingest { IsIngestOf lane ingest × ((ingest_of ingest).finished ≡ true) × ((ingest_of ingest).held ≡ []) }
+        requires ingest { IsIngestOf lane ingest × ((ingest_of ingest).finished ≡ true)
+            × ((ingest_of ingest).held ≡ []) }
         requires count { length workers.items ≡ length (lane_of lane).shares }
-        requires workers { (w : ℕ) (x : QueueWorker) → slice_get workers.items w ≡ Some x → IsWorkerOf lane x × ((worker_of x).place ≡ w) × ((worker_of x).ended ≡ true) × ((worker_of x).held ≡ []) }
+        requires workers { (w : ℕ) (x : QueueWorker) → slice_get workers.items w ≡ Some x
+            → IsWorkerOf lane x × ((worker_of x).place ≡ w) × ((worker_of x).ended ≡ true) × ((worker_of x).held ≡ []) }
         ensures closed { open_lanes_of self.new + 1 ≡ open_lanes_of self.old }
-        ensures books { (b : LaneBook) × (books_of self.new ≡ books_of self.old ++ b ∷ []) × IsBookOf (lane_of lane) (ingest_of ingest) (map (λ x. (worker_of x).received) workers.items) b }
+        ensures books { (b : LaneBook) × (books_of self.new ≡ books_of self.old ++ b ∷ [])
+            × IsBookOf (lane_of lane) (ingest_of ingest) (map (λ x. (worker_of x).received) workers.items) b }
     {
         let book = lane.shut(rt, ingest, workers);
         self.open_lanes -= 1;

@@ -12,6 +12,7 @@ use atomic_table::{Table, TableRule};
 use lane_core::Log;
 use pcap_io::Capture;
 use std::alloc::Global;
+use std::fmt;
 use std::snapshot::Snapshot;
 
 /// The rule of a table that nobody steps on.
@@ -59,7 +60,8 @@ pub struct QueueIngest {
     ghost may: { (0 < (view pass).parts) × ((view pass).takes ≡ true) },
     // what it claimed are the slots that it sent and those that it holds, each as often
     ghost claimed: { (i : ℕ) → times i (view pass).taken ≡ in_logs i (pairs_in sent.items) + times i held.items },
-    ghost claims: { length (view pass).taken ≡ total (λ pairs. length pairs) (pairs_in sent.items) + length held.items },
+    ghost claims: { length (view pass).taken
+        ≡ total (λ pairs. length pairs) (pairs_in sent.items) + length held.items },
 }
 
 /// A worker's seat at a lane.
@@ -78,4 +80,41 @@ pub struct QueueWorker {
     // what it received are the slots that it released and those that it holds, each as often
     ghost slots: { (i : ℕ) → times i (view pass).put + times i held.items ≡ times i (slots_of received.pairs) },
     ghost room: { 32 ≤ vec_capacity held },
+}
+
+/// Its numbers, and not its queues.
+impl fmt::Debug for QueueLane {
+    fn fmt<W: fmt::Write>(&self, f: &mut fmt::Formatter<W>) -> fmt::Result {
+        f.debug_struct("QueueLane")
+            .field("buffers", &self.buffers)
+            .field("bytes", &self.bytes)
+            .field("workers", &self.shares.len())
+            .finish_non_exhaustive()
+    }
+}
+
+/// The slots that it holds, and not what it sent.
+impl fmt::Debug for QueueIngest {
+    fn fmt<W: fmt::Write>(&self, f: &mut fmt::Formatter<W>) -> fmt::Result {
+        f.debug_struct("QueueIngest")
+            .field("held", &self.held)
+            .field("missed", &self.missed)
+            .field("finished", &self.finished)
+            .field("finds", &self.finds)
+            .finish_non_exhaustive()
+    }
+}
+
+/// How many records it received, and not which.
+impl fmt::Debug for QueueWorker {
+    fn fmt<W: fmt::Write>(&self, f: &mut fmt::Formatter<W>) -> fmt::Result {
+        f.debug_struct("QueueWorker")
+            .field("place", &self.place)
+            .field("received", &self.received.as_slice().len())
+            .field("held", &self.held)
+            .field("ended", &self.ended)
+            .field("idle", &self.idle)
+            .field("finds", &self.finds)
+            .finish_non_exhaustive()
+    }
 }

@@ -20,7 +20,9 @@ pub fn take<R: Wait>(rt: &R, pool: &Pool, pass: &mut PoolPass) -> Option<Buffer>
     requires pass { IsPassOf pool.now pass.old }
     requires may { (0 < (view pass.old).parts) × ((view pass.old).takes ≡ true) }
     ensures same { IsSamePass pass.old pass.new }
-    ensures given { MatchOption result ((view pass.new ≡ view pass.old) × ((i : ℕ) → times i (view pass.old).put ≤ times i (view pass.old).taken)) (λ b. Takes (view pass.old) b (view pass.new)) }
+    ensures given { MatchOption result ((view pass.new ≡ view pass.old)
+        × ((i : ℕ) → times i (view pass.old).put
+        ≤ times i (view pass.old).taken)) (λ b. Takes (view pass.old) b (view pass.new)) }
 {
     pool.pop_as::<Take, R>(rt, pass)
 }
@@ -30,7 +32,9 @@ pub fn put<R: Wait>(rt: &R, pool: &Pool, pass: &mut PoolPass, b: Buffer)
     requires pass { IsPassOf pool.now pass.old }
     requires may { (0 < (view pass.old).parts) × FitsPool (view pass.old).size b }
     ensures same { IsSamePass pass.old pass.new }
-    ensures put { view pass.new ≡ pool_view (view pass.old).parts (view pass.old).takes ((view pass.old).put ++ b.slot ∷ []) (view pass.old).taken (view pass.old).size }
+    ensures put { view pass.new
+        ≡ pool_view (view pass.old).parts (view pass.old).takes ((view pass.old).put ++ b.slot
+        ∷ []) (view pass.old).taken (view pass.old).size }
 {
     let mut value = b;
     for _ in rt.forever() {

@@ -1,5 +1,6 @@
 // What a pass of a lane's pool knows, the rule of the pool, and the names of its steps.
-ghost use Rattle.lane_queue.specs.PoolRule.{Pool, first_view, Fills, Puts, Takes, Rest, Whole, kept_parts, given_part, both_parts, spent};
+ghost use Rattle.lane_queue.specs.PoolRule.{Pool, first_view, Fills, Puts, Takes, Rest, Whole, kept_parts, given_part};
+ghost use Rattle.lane_queue.specs.PoolRule.{both_parts, spent};
 
 use crossbeam_queue::protocol::{Join, Lesson, Outcome, Protocol, Split};
 use packet_owner::Buffer;

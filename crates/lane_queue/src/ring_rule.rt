@@ -1,23 +1,37 @@
 // What lies in a ring, what a pass of it knows, the rule of a ring, and the names of its steps.
 ghost use Rattle.std.specs.Prelude.{Option, None};
 ghost use Rattle.lane_queue.specs.declared.ring_rule.RingAbout.{RingAbout};
-ghost use Rattle.lane_queue.specs.RingRule.{Ring, first_view, Sends, Gets, IsDone, first_sender, first_getter, both_halves, spent};
+ghost use Rattle.lane_queue.specs.RingRule.{Ring, first_view, Sends, Gets, IsDone, first_sender, first_getter};
+ghost use Rattle.lane_queue.specs.RingRule.{both_halves, spent};
 
 use brick_base::Raw;
 use crossbeam_queue::protocol::{Join, Lesson, Outcome, Protocol, Split};
 use packet_owner::Packet;
 use pcap_io::Capture;
 use std::collections::LinkedList;
+use std::fmt;
 use std::marker::{Brand, PhantomData};
 use std::snapshot::Snapshot;
 
-/// What a ring is made with: the lane's number of buffers, the room of each, how many records may be sent in it, and of which capture.
+/// What a ring is made with: the lane's number of buffers, the room of each, how many records may be sent in it, and of
+/// which capture.
 #[derive(Drop)]
 pub struct RingAbout {
     pub buffers: u32,
     pub bytes: u32,
     pub share: u32,
     pub capture: Snapshot<Capture>,
+}
+
+/// Its numbers: a snapshot is not read.
+impl fmt::Debug for RingAbout {
+    fn fmt<W: fmt::Write>(&self, f: &mut fmt::Formatter<W>) -> fmt::Result {
+        f.debug_struct("RingAbout")
+            .field("buffers", &self.buffers)
+            .field("bytes", &self.bytes)
+            .field("share", &self.share)
+            .finish_non_exhaustive()
+    }
 }
 
 /// What lies in a ring.

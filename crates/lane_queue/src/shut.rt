@@ -1,5 +1,6 @@
 // How a lane ends.
-ghost use Rattle.std.specs.Prelude.{◌≡◌, ◌≢◌, ℕ, ◌+◌, ◌<◌, ◌≤◌, true, [], ◌∷◌, ◌++◌, map, length, nat_lt, slice_get, Some, vec_capacity};
+ghost use Rattle.std.specs.Prelude.{◌≡◌, ◌≢◌, ℕ, ◌+◌, ◌<◌, ◌≤◌, true, [], ◌∷◌, ◌++◌, map, length, nat_lt, slice_get};
+ghost use Rattle.std.specs.Prelude.{Some, vec_capacity};
 ghost use Rattle.crossbeam_queue.specs.Passes.{view, IsPassOf};
 ghost use Rattle.lane_spec.specs.Counts.{times, one_if, IsEachOnce};
 ghost use Rattle.lane_core.specs.Seats.{log_of, IsBookOf};
@@ -50,14 +51,20 @@ impl QueueLane {
         requires pool { IsPassOf self.now.pool seat.old.pass }
         requires passes { length seat.old.rings.items ≡ length self.now.shares.items }
         requires worker { IsWorkerOf self.now worker × (worker.ended ≡ true) }
-        requires ring { Each (λ w q p. w ≡ worker.place → IsSender (lane_of self.now) w (log_of (pairs_in seat.old.sent.items) w) true q p) self.now.rings.items seat.old.rings.items }
+        requires ring { Each (λ w q p. w ≡ worker.place
+            → IsSender (lane_of self.now) w (log_of (pairs_in seat.old.sent.items) w) true q p) self.now.rings.items
+            seat.old.rings.items }
         requires room { length seat.old.received.items < vec_capacity seat.old.received }
         ensures same { worker.received.pairs ≡ log_of (pairs_in seat.old.sent.items) worker.place }
-        ensures received { (seat.new.received.items ≡ seat.old.received.items ++ worker.received ∷ []) × (vec_capacity seat.old.received ≤ vec_capacity seat.new.received) }
-        ensures kept { (seat.new.sent ≡ seat.old.sent) × (seat.new.held ≡ seat.old.held) × (seat.new.missed ≡ seat.old.missed) × (seat.new.home ≡ seat.old.home) }
-        ensures pool { IsPassOf self.now.pool seat.new.pass × (view seat.new.pass ≡ both_parts (view seat.old.pass) (view worker.pass)) }
+        ensures received { (seat.new.received.items ≡ seat.old.received.items ++ worker.received ∷ [])
+            × (vec_capacity seat.old.received ≤ vec_capacity seat.new.received) }
+        ensures kept { (seat.new.sent ≡ seat.old.sent) × (seat.new.held ≡ seat.old.held)
+            × (seat.new.missed ≡ seat.old.missed) × (seat.new.home ≡ seat.old.home) }
+        ensures pool { IsPassOf self.now.pool seat.new.pass
+            × (view seat.new.pass ≡ both_parts (view seat.old.pass) (view worker.pass)) }
         ensures long { length seat.new.rings.items ≡ length self.now.shares.items }
-        ensures others { (w : ℕ) → w ≢ worker.place → slice_get seat.new.rings.items w ≡ slice_get seat.old.rings.items w }
+        ensures others { (w : ℕ) → w ≢ worker.place
+            → slice_get seat.new.rings.items w ≡ slice_get seat.old.rings.items w }
     {
         let QueueWorker {
             pass,
@@ -83,7 +90,8 @@ impl QueueLane {
         requires workers { AreEndedFrom self.now 0 workers.items }
         requires ingest { HasJoined self.now 0 seat.old }
         ensures received { pairs_in seat.new.received.items ≡ logs_of workers.items }
-        ensures kept { (seat.new.sent ≡ seat.old.sent) × (seat.new.held ≡ seat.old.held) × (seat.new.missed ≡ seat.old.missed) }
+        ensures kept { (seat.new.sent ≡ seat.old.sent) × (seat.new.held ≡ seat.old.held)
+            × (seat.new.missed ≡ seat.old.missed) }
         ensures joined { HasJoined self.now (length workers.items) seat.new }
     {
         let count = workers.len();
@@ -102,8 +110,10 @@ impl QueueLane {
     ) -> Book
         requires ingest { IsIngestOf self ingest × (ingest.finished ≡ true) × (ingest.held.items ≡ []) }
         requires count { length workers.items ≡ length self.shares.items }
-        requires workers { (w : ℕ) (x : QueueWorker) → slice_get workers.items w ≡ Some x → IsWorkerOf self x × ((worker_of x).place ≡ w) × ((worker_of x).ended ≡ true) × ((worker_of x).held ≡ []) }
-        ensures { IsBookOf (lane_of self) (ingest_of ingest) (map (λ x. (worker_of x).received) workers.items) (book_view result) }
+        requires workers { (w : ℕ) (x : QueueWorker) → slice_get workers.items w ≡ Some x
+            → IsWorkerOf self x × ((worker_of x).place ≡ w) × ((worker_of x).ended ≡ true) × ((worker_of x).held ≡ []) }
+        ensures { IsBookOf (lane_of self) (ingest_of ingest) (map (λ x. (worker_of x).received) workers.items)
+            (book_view result) }
     {
         self.join_all(&mut ingest, workers);
         let QueueIngest {

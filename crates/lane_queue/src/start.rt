@@ -1,12 +1,14 @@
 // How a lane starts.
-ghost use Rattle.std.specs.Prelude.{◌≡◌, ℕ, ◌+◌, ◌-◌, ◌^◌, ◌<◌, ◌≤◌, false, [], All, length, replicate, slice_get, slice_index, Some, IfOk, OnOk, vec_capacity};
+ghost use Rattle.std.specs.Prelude.{◌≡◌, ℕ, ◌+◌, ◌-◌, ◌^◌, ◌<◌, ◌≤◌, false, [], All, length, replicate, slice_get};
+ghost use Rattle.std.specs.Prelude.{slice_index, Some, IfOk, OnOk, vec_capacity};
 ghost use Rattle.crossbeam_queue.specs.Passes.{view, IsPassOf, ruled_capacity};
 ghost use Rattle.lane_core.specs.Seats.{IsNewIngest, IsNewWorker};
 ghost use Rattle.lane_core.specs.View.{pairs_in};
 ghost use Rattle.lane_queue.specs.PoolRule.{filled_view};
 ghost use Rattle.lane_queue.specs.RingRule.{sender_view, getter_view};
 ghost use Rattle.lane_queue.specs.Lists.{Each, rooms_in};
-ghost use Rattle.lane_queue.specs.Seats.{lane_of, ingest_of, worker_of, about_of, IsIngestOf, IsWorkerOf, IsNewPass, IsSender, IsGetter};
+ghost use Rattle.lane_queue.specs.Seats.{lane_of, ingest_of, worker_of, about_of, IsIngestOf, IsWorkerOf, IsNewPass};
+ghost use Rattle.lane_queue.specs.Seats.{IsSender, IsGetter};
 ghost use Rattle.lane_queue.specs.Starts.{AreNewWorkers};
 
 use crate::lane::{KeyTable, QueueIngest, QueueLane, QueueWorker};
@@ -84,7 +86,8 @@ fn split_ring<K: RingKey>(
     requires key { K.about ≡ Some (about_of lane.now w) }
     requires pass { IsNewPass ring.now pass.old }
     ensures passes { IsPassOf ring.now pass.new × IsPassOf ring.now result }
-    ensures views { (view pass.new ≡ sender_view [] false (about_of lane.now w)) × (view result ≡ getter_view [] false (about_of lane.now w)) }
+    ensures views { (view pass.new ≡ sender_view [] false (about_of lane.now w))
+        × (view result ≡ getter_view [] false (about_of lane.now w)) }
 {
     ring.another::<Opens<K>>(pass)
 }
@@ -120,12 +123,15 @@ impl QueueLane {
         first: &mut PoolPass,
         passes: &mut Vec<RingPass>,
     ) -> Result<Vec<QueueWorker>, NoMemory>
-        requires pool { IsPassOf self.now.pool first.old × (view first.old ≡ filled_view 1024 self.now.bytes self.now.buffers) }
+        requires pool { IsPassOf self.now.pool first.old
+            × (view first.old ≡ filled_view 1024 self.now.bytes self.now.buffers) }
         requires count { length passes.old.items ≡ length self.now.shares.items }
         requires rings { Each (λ w q p. IsNewPass q p) self.now.rings.items passes.old.items }
-        ensures pool { OnOk result (IsPassOf self.now.pool first.new × (view first.new ≡ filled_view (1024 - length self.now.shares.items) self.now.bytes self.now.buffers)) }
+        ensures pool { OnOk result (IsPassOf self.now.pool first.new
+            × (view first.new ≡ filled_view (1024 - length self.now.shares.items) self.now.bytes self.now.buffers)) }
         ensures rest { OnOk result (length passes.new.items ≡ length self.now.shares.items) }
-        ensures rings { OnOk result (Each (λ w q p. IsSender (lane_of self.now) w [] false q p) self.now.rings.items passes.new.items) }
+        ensures rings { OnOk result
+            (Each (λ w q p. IsSender (lane_of self.now) w [] false q p) self.now.rings.items passes.new.items) }
         ensures count { IfOk result (λ v. length v.items ≡ length self.now.shares.items) }
         ensures workers { IfOk result (λ v. AreNewWorkers self.now v.items) }
     {
@@ -159,7 +165,8 @@ impl QueueLane {
         pass: PoolPass,
         rings: Vec<RingPass>,
     ) -> Result<QueueIngest, NoMemory>
-        requires pool { IsPassOf self.now.pool pass × (view pass ≡ filled_view (1024 - length self.now.shares.items) self.now.bytes self.now.buffers) }
+        requires pool { IsPassOf self.now.pool pass
+            × (view pass ≡ filled_view (1024 - length self.now.shares.items) self.now.bytes self.now.buffers) }
         requires count { length rings.items ≡ length self.now.shares.items }
         requires rings { Each (λ w q p. IsSender (lane_of self.now) w [] false q p) self.now.rings.items rings.items }
         ensures { IfOk result (λ i. IsIngestOf self.now i × IsNewIngest (length self.now.shares.items) (ingest_of i)) }
@@ -181,7 +188,8 @@ impl QueueLane {
         })
     }
 
-    /// A lane with so many buffers of so many bytes each, all in the pool, and its seats. It takes all the memory that the lane needs.
+    /// A lane with so many buffers of so many bytes each, all in the pool, and its seats. It takes all the memory that
+    /// the lane needs.
     pub(crate) fn start<R: Wait>(
         rt: &R,
         alloc: Global,
@@ -192,10 +200,13 @@ impl QueueLane {
     ) -> Result<Started<QueueLane, QueueIngest, QueueWorker>, NoMemory>
         requires buffers { (1 ≤ buffers) × (buffers ≤ 1024) }
         requires shares { (1 ≤ length shares.now) × (length shares.now ≤ 16) }
-        ensures lane { IfOk result (λ s. lane_of s.lane ≡ record { capture = capture.now; buffers = buffers; bytes = bytes; shares = shares.now }) }
-        ensures ingest { IfOk result (λ s. IsIngestOf s.lane s.ingest × IsNewIngest (length shares.now) (ingest_of s.ingest)) }
+        ensures lane { IfOk result (λ s. lane_of s.lane
+            ≡ record { capture = capture.now; buffers = buffers; bytes = bytes; shares = shares.now }) }
+        ensures ingest { IfOk result (λ s. IsIngestOf s.lane s.ingest
+            × IsNewIngest (length shares.now) (ingest_of s.ingest)) }
         ensures count { IfOk result (λ s. length s.workers.items ≡ length shares.now) }
-        ensures workers { IfOk result (λ s. (w : ℕ) (x : QueueWorker) → slice_get s.workers.items w ≡ Some x → IsWorkerOf s.lane x × IsNewWorker w (worker_of x)) }
+        ensures workers { IfOk result (λ s. (w : ℕ) (x : QueueWorker) → slice_get s.workers.items w ≡ Some x
+            → IsWorkerOf s.lane x × IsNewWorker w (worker_of x)) }
     {
         let (pool, mut first) = full_pool(rt, alloc, buffers, bytes)?;
         let (rings, mut passes) = new_rings(alloc, buffers, shares.len())?;

@@ -4,6 +4,7 @@ ghost use Rattle.lane_queue.specs.Kits.{open_lanes_of};
 ghost use Rattle.lane_queue.specs.Seats.{lane_of, ingest_of, worker_of, IsIngestOf, IsWorkerOf};
 ghost use Rattle.lane_queue.specs.Turns.{HasSentBelow};
 
+use crate::ring_rule::RingAbout;
 use crate::{QueueIngest, QueueKit, QueueLane, QueueWorker};
 use brick_base::NoMemory;
 use lane_core::{Book, Got, LaneKit, Started, run_alone};
@@ -11,6 +12,7 @@ use packet_owner::Packet;
 use pcap_io::Capture;
 use std::alloc::Global;
 use std::process::Abort;
+use std::snapshot::Snapshot;
 use std::sync::Wait;
 use std::test::Fail;
 use std::thread;
@@ -424,5 +426,45 @@ fn an_ingest_and_two_workers_in_threads(rt: HostRuntime) -> Result<(), Fail> {
             assert_eq!(rt; log.as_slice().len(), 10_000);
         }
     }
+    Ok(())
+}
+
+#[test]
+fn no_packets_are_printed(rt: HostRuntime) -> Result<(), Fail> {
+    let alloc = rt.alloc();
+    let capture = capture_of(&rt, alloc, 3, 7)?;
+    assert!(rt; capture.count() == 3);
+    let mut kit = QueueKit::new(alloc);
+    let (lane, mut ingest, mut first, _second) = start_two(&rt, alloc, &mut kit, &capture, 2)?;
+    must_send(&rt, &lane, &mut ingest, &capture, 0, 0, 0);
+    must_send(&rt, &lane, &mut ingest, &capture, 1, 1, 1);
+    must_miss(&rt, &lane, &mut ingest, &capture, 2);
+    must_take(&rt, &lane, &mut first, Some((0, 0, 7)));
+    let text = format!(in alloc; "{lane:?}")?;
+    assert_eq!(rt;
+        text.as_str(),
+        "QueueLane { buffers: 2, bytes: 64, workers: 2, .. }"
+    );
+    let text = format!(in alloc; "{ingest:?}")?;
+    assert_eq!(rt;
+        text.as_str(),
+        "QueueIngest { held: [], missed: 1, finished: false, finds: 1, .. }"
+    );
+    let text = format!(in alloc; "{first:?}")?;
+    assert_eq!(rt;
+        text.as_str(),
+        "QueueWorker { place: 0, received: 1, held: [], ended: false, idle: false, finds: 0, .. }"
+    );
+    let about = RingAbout {
+        buffers: 2,
+        bytes: 64,
+        share: 3,
+        capture: Snapshot::of(&capture),
+    };
+    let text = format!(in alloc; "{about:?}")?;
+    assert_eq!(rt;
+        text.as_str(),
+        "RingAbout { buffers: 2, bytes: 64, share: 3, .. }"
+    );
     Ok(())
 }

@@ -31,7 +31,8 @@ pub fn add_log(logs: &mut Vec<Log>, log: Log)
 pub fn add_pair(logs: &mut Vec<Log>, w: u32, slot: u32, number: u32)
     requires there { w < length logs.old.items }
     requires room { length (log_of (pairs_in logs.old.items) w) < slice_index (rooms_in logs.old.items) w }
-    ensures pairs { pairs_in logs.new.items ≡ slice_set (pairs_in logs.old.items) w (log_of (pairs_in logs.old.items) w ++ (slot, number) ∷ []) }
+    ensures pairs { pairs_in logs.new.items
+        ≡ slice_set (pairs_in logs.old.items) w (log_of (pairs_in logs.old.items) w ++ (slot, number) ∷ []) }
     ensures long { length logs.new.items ≡ length logs.old.items }
     ensures rooms { (x : ℕ) → slice_index (rooms_in logs.old.items) x ≤ slice_index (rooms_in logs.new.items) x }
 {
