@@ -21,7 +21,7 @@ use Rattle.chain_nodes.specs.declared.fan.Fan.{Fan}
 use Rattle.chain_nodes.specs.declared.leaf.LeafList.{LeafList}
 use Rattle.chain_nodes.specs.declared.pipe.Pipe.{Pipe}
 use Rattle.chain_run.specs.Sound.{IsGroupSound, IsChainSound, IsBareGroup}
-use Rattle.chain_run.specs.Tree.{below_stands, below_results, below_serves, group_stands, group_results, group_serves, groups_stand, groups_results, groups_serve, root_stands, root_makes, root_results, root_serves}
+use Rattle.chain_run.specs.Tree.{below_stands, below_results, below_serves, group_stands, group_results, group_serves, groups_stand, groups_results, groups_serve}
 use Rattle.chain_run.specs.Built.{AreBuilt, IsPath, BelowBuilt, GroupBuilt, GroupsBuilt, RootBuilt}
 use Rattle.chain_run.proofs.Grown.{built_long, built_each, built_where}
 use Rattle.chain_run.proofs.Ways.{way_serves, way_bare, below_bare, groups_bare, none_or}
@@ -90,7 +90,7 @@ module _ {P : Type 0} (m : Meaning P) (nat : Option NatPlan) (count bytes : ℕ)
 module _ {P : Type 0} (m : Meaning P) (count bytes : ℕ) where
   pub root_made : (chain : chains.Chain) (p : P) (f : Fan (places.GroupNode P)) (r : Result (Pipe P (Fan (places.GroupNode P))) NoMemory) → IsChainSound count bytes chain
       → IsPath m chain.nat count bytes (before_stages chain.unparsed) chain.stages p → GroupsBuilt m chain.nat count bytes chain.groups f
-      → IfOk r (λ t. t.path ≡ p) → IfOk r (λ t. t.next ≡ f) → IfOk r (λ t. t.waiting.items ≡ []) → IfOk r (λ t. count < vec_capacity t.waiting) → IfOk r (RootBuilt (root_stands m) (root_makes m) (root_results m) (root_serves m) count bytes chain)
+      → IfOk r (λ t. t.path ≡ p) → IfOk r (λ t. t.next ≡ f) → IfOk r (λ t. t.waiting.items ≡ []) → IfOk r (λ t. count < vec_capacity t.waiting) → IfOk r (RootBuilt m count bytes chain)
   root_made chain p f (Err e) sound path groups hp hn hw hr = tt
   root_made chain p f (Ok t) sound path' groups' hp hn hw hr =
       let path = subst (IsPath m chain.nat count bytes (before_stages chain.unparsed) chain.stages) (sym hp) path' in
@@ -100,7 +100,7 @@ module _ {P : Type 0} (m : Meaning P) (count bytes : ℕ) where
         follows = root_means m.row t ∙ (λ i. flow_meaning (record { row = path.row i; groups = groups.plans i }));
         many = groups.many;
         new = pipe_new m.stands (groups_stand m) (groups_results m) (λ (u : Pipe P (Fan (places.GroupNode P))). u.path) (λ u. u.next) t path.begins groups.new;
-        ready = way_serves m chain.nat count bytes (groups_serve m) (before_stages chain.unparsed) chain.stages t.path t.next t.waiting.items (vec_capacity t.waiting) path hw hr one groups.serves;
+        serves = way_serves m chain.nat count bytes (groups_serve m) (before_stages chain.unparsed) chain.stages t.path t.next t.waiting.items (vec_capacity t.waiting) path hw hr one groups.serves;
       } where
         plain : IsPath m chain.nat count bytes (before_stages chain.unparsed) chain.stages t.path → GroupsBuilt m chain.nat count bytes chain.groups t.next → (windows_in chain.stages ≡ 0) ⊎ (windows_in chain.stages ≡ 0 → ⊥) → (m.spares t.path ≡ 0) ⊎ groups_serve m t.next count bytes 0
         plain path groups (inl e) = inl (path.bare e)

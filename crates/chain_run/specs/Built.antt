@@ -3,12 +3,9 @@ use Rattle.std.specs.Prelude.{ℕ, ◌≡◌, ◌≤◌, List, [], ◌∷◌, �
 use Rattle.std.specs.List.{AllByRecursion, sum_by}
 use Rattle.brick_spec.specs.Flow.{Flow}
 use Rattle.brick_spec.specs.FlowClass.{NatPlan}
-use Rattle.brick_spec.specs.FlowStage.{FlowStage, FlowInput, nothing}
-use Rattle.brick_spec.specs.Item.{Item}
+use Rattle.brick_spec.specs.FlowStage.{FlowStage, nothing}
 use Rattle.batch_ops.specs.Operator.{Meaning}
-use Rattle.flow_spec.specs.Parts.{Parts}
 use Rattle.flow_spec.specs.Plan.{GroupPlan, leaf_count, leaves_below, flow_meaning}
-use Rattle.flow_work.specs.Meaning as made
 use Rattle.chain_spec.specs.ChainSet as chains
 use Rattle.chain_spec.specs.ChainSet.{windows_in}
 use Rattle.tenant_spec.specs.ChainPlan.{row_of, leaf_plan, below_plan, group_plan, plan_of}
@@ -21,7 +18,8 @@ use Rattle.chain_nodes.specs.declared.pipe.Pipe.{Pipe}
 use Rattle.chain_run.specs.Sound.{IsBareLeaf, IsBareBelow, IsBareGroup}
 use Rattle.chain_run.specs.Tree.{leaf_stands, leaf_results, leaf_serves, leaves_stand, leaves_results, leaves_serve}
 use Rattle.chain_run.specs.Tree.{below_stands, below_results, below_serves, group_stands, group_results, group_serves}
-use Rattle.chain_run.specs.Tree.{groups_stand, groups_results, groups_serve}
+use Rattle.chain_run.specs.Tree.{groups_stand, groups_results, groups_serve, root_stands, root_results, root_serves}
+use Rattle.chain_run.specs.Tree.{root_makes}
 
 -- one for one
 abbrev pub AreBuilt : {X T : Type 0} → (X → T → Type 0) → List X → List T → Type 0
@@ -74,11 +72,10 @@ module _ {P : Type 0} (m : Meaning P) (nat : Option NatPlan) (count bytes : ℕ)
     pub bare : AllByRecursion IsBareGroup gs → groups_serve m f count bytes 0
     pub many : length (groups_results m f) ≡ sum_by (λ (g : GroupPlan). leaves_below g.below) (map (group_plan nat) gs)
 
--- a place that is a whole chain, beside so many spare buffers of so many bytes, which lie ready
-pub record RootBuilt {N : Type 0} (stands : N → Flow → FlowInput → Parts → Type 0) (makes : N
-    → made.Meaning) (results : N → List (List Item)) (serves : N → ℕ → ℕ → ℕ
-    → Type 0) (count bytes : ℕ) (chain : chains.Chain) (root : N) : Type 0 where
-  pub follows : makes root ≡ flow_meaning (plan_of chain)
-  pub many : length (results root) ≡ leaf_count (plan_of chain)
-  pub new : IsNewNode stands results root
-  pub ready : serves root count bytes count
+-- the root of a chain, beside so many spare buffers of so many bytes, which lie ready
+pub record RootBuilt {P : Type 0} (m : Meaning P) (count bytes : ℕ) (chain : chains.Chain)
+    (t : Pipe P (Fan (places.GroupNode P))) : Type 0 where
+  pub follows : root_makes m t ≡ flow_meaning (plan_of chain)
+  pub many : length (root_results m t) ≡ leaf_count (plan_of chain)
+  pub new : IsNewNode (root_stands m) (root_results m) t
+  pub serves : root_serves m t count bytes count

@@ -21,6 +21,6 @@ pub use groups::{GroupPlace, build_group};
 pub use need::{Need, need_of};
 pub use path::{ChainPath, TenantWork};
 pub use paths::{Site, StagesPath};
-pub use root::{Root, RootPlace, build_root};
+pub use root::{RootPlace, build_root};
 pub use tree_work::TreeWork;
 pub use work_core::{ChainWork, NewWork, Returned, WorkResult, join_outputs};

@@ -9,7 +9,6 @@ ghost use Rattle.chain_run.specs.Sound.{WindowFits};
 
 use crate::paths::{Site, StagesPath};
 use crate::plain::{add_plain, first_stages};
-use crate::root::RootPlace;
 use crate::tree_work::TreeWork;
 use batch_ops::Then;
 use brick_base::NoMemory;
@@ -24,7 +23,7 @@ use window_stage::WindowStage;
 pub type ChainPath = StagePath<PlainStage, WindowStage>;
 
 /// A tenant's chain at work.
-pub type TenantWork = TreeWork<RootPlace<StagePath<PlainStage, WindowStage>>>;
+pub type TenantWork = TreeWork<StagePath<PlainStage, WindowStage>>;
 
 /// Whether it is a window.
 fn is_window(stage: &Stage) -> bool

@@ -3,23 +3,13 @@ ghost use Rattle.flow_key.specs.View.{plan_view};
 ghost use Rattle.chain_types.specs.View.{chain_view};
 ghost use Rattle.chain_run.specs.Sound.{IsChainSound};
 ghost use Rattle.chain_run.specs.Built.{RootBuilt};
-ghost use Rattle.chain_run.specs.Tree.{root_stands, root_makes, root_results, root_serves};
 
 use crate::groups::build_groups;
 use crate::paths::{Site, StagesPath};
 use brick_base::NoMemory;
-use chain_nodes::{Either, Fan, LeafList, Node, Pipe};
+use chain_nodes::{Either, Fan, LeafList, Pipe};
 use chain_types::Chain;
 use std::alloc::Global;
-
-/// A place that is a whole chain, and may be given to another thread.
-pub trait Root: Node + Send {
-    /// The root of a chain, beside so many spare buffers of so many bytes.
-    fn of_chain(alloc: Global, chain: &Chain, count: u32, bytes: u32) -> Result<Self, NoMemory>
-        requires { IsChainSound count bytes (chain_view chain.now) }
-        ensures { IfOk result
-            (λ t. RootBuilt Self.stands Self.makes Self.results Self.serves count bytes (chain_view chain.now) t) };
-}
 
 /// A chain: its first stages, and its groups behind them.
 pub type RootPlace<P> = Pipe<
@@ -51,9 +41,7 @@ pub fn build_root<P: StagesPath>(
     NoMemory,
 >
     requires { IsChainSound count bytes (chain_view chain.now) }
-    ensures { IfOk result
-        (λ t. RootBuilt (root_stands P.Operator.meaning) (root_makes P.Operator.meaning)
-        (root_results P.Operator.meaning) (root_serves P.Operator.meaning) count bytes (chain_view chain.now) t) }
+    ensures { IfOk result (λ t. RootBuilt P.Operator.meaning count bytes (chain_view chain.now) t) }
 {
     let site = Site {
         nat: chain.nat,
@@ -63,35 +51,4 @@ pub fn build_root<P: StagesPath>(
     let path = P::of_stages(alloc, &site, chain.unparsed, chain.stages.as_slice())?;
     let next = build_groups(alloc, &site, chain.groups.as_slice())?;
     Pipe::new(alloc, path, next, count)
-}
-
-impl<P: StagesPath + Send> Root
-    for Pipe<
-        P,
-        Fan<
-            Either<
-                Either<LeafList, Fan<Pipe<P, LeafList>>>,
-                Pipe<P, Either<LeafList, Fan<Pipe<P, LeafList>>>>,
-            >,
-        >,
-    > {
-    fn of_chain(
-        alloc: Global,
-        chain: &Chain,
-        count: u32,
-        bytes: u32,
-    ) -> Result<
-        Pipe<
-            P,
-            Fan<
-                Either<
-                    Either<LeafList, Fan<Pipe<P, LeafList>>>,
-                    Pipe<P, Either<LeafList, Fan<Pipe<P, LeafList>>>>,
-                >,
-            >,
-        >,
-        NoMemory,
-    > {
-        build_root(alloc, chain, count, bytes)
-    }
 }
