@@ -45,6 +45,18 @@ unnumbered_more set inputs c i e =
     ap (map unnumbered) (jobs_more 0 set inputs c i e) ∙ map-append unnumbered (jobs_of 0 set inputs) (own_job (0 + length set) c i)
     ∙ ap (λ js. map unnumbered (jobs_of 0 set inputs) ++ js) (own_unnumbered (0 + length set) c i)
 
+own_few : (t : ℕ) (c : Chain) (i : TenantInput) → length (own_job t c i) ≤ 1
+own_few t c (input.Whole k) = omega arith
+own_few t c input.TooLong = omega arith
+own_few t c (input.Bad r) = omega arith
+own_few t c input.Unread = omega arith
+
+-- no tenant has two
+pub jobs_few : (t : ℕ) (set : List Chain) (inputs : List TenantInput) → length (jobs_of t set inputs) ≤ length set
+jobs_few t [] inputs = omega arith
+jobs_few t (c ∷ set) [] = omega arith
+jobs_few t (c ∷ set) (i ∷ inputs) = omega (arith, length-append (own_job t c i) (jobs_of (suc t) set inputs), own_few t c i, jobs_few (suc t) set inputs)
+
 place_long : (k t : ℕ) (c : Chain) (i : TenantInput) (js : List Job) → place_after k i + length js ≡ k + length (own_job t c i ++ js)
 place_long k t c (input.Whole x) js = omega arith
 place_long k t c input.TooLong js = refl

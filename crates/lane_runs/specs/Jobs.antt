@@ -53,7 +53,8 @@ place_after k input.Unread = k
 -- each has the name of its chain and the part that its capture gives, where the first job has place k
 abbrev pub AreTenants : ℕ → List Chain → List TenantInput → List Tenant → Type 0
 AreTenants k [] [] [] = Unit {0}
-AreTenants k (chain ∷ set) (i ∷ inputs) (w ∷ tenants) = (w.name ≡ chain.name) × (w.part ≡ part_of k i) × AreTenants (place_after k i) set inputs tenants
+AreTenants k (chain ∷ set) (i ∷ inputs) (w ∷ tenants) =
+    (w.name ≡ chain.name) × (w.part ≡ part_of k i) × AreTenants (place_after k i) set inputs tenants
 AreTenants k _ _ _ = ⊥
 
 -- it is the tenant of its number, and its capture is read so

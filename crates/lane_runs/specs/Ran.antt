@@ -1,5 +1,6 @@
 -- What a run over lanes leaves, from its parts to the whole.
-use Rattle.std.specs.Prelude.{◌≡◌, ◌⊎◌, ℕ, List, [], ◌++◌, length, map, take, slice_get, Some, Contains, Result, Ok, Err, IsErr}
+use Rattle.std.specs.Prelude.{◌≡◌, ◌⊎◌, ℕ, List, [], ◌++◌, length, map, take, slice_get, Some, Contains, Result, Ok}
+use Rattle.std.specs.Prelude.{Err, IsErr}
 use Rattle.std.specs.List.{AllByRecursion, AllZip}
 use Rattle.std.specs.Global.{Vec}
 use Rattle.brick_base.specs.declared.memory.NoMemory.{NoMemory}
@@ -29,14 +30,16 @@ pub record Adds (workers : ℕ) (jobs : List Job) (old new added : List LaneBook
 
 -- AFTER THE CAPTURES
 
--- Memory ran out in the lanes, and no name is touched; or each job has its Book, and with the records that these say to be refused the
--- tenants were written.
-pub record JobsRan (tells : Type 0) (out : List ℕ) (workers : ℕ) (set : List Chain) (inputs : List TenantInput) (first before now : Held) (old new : List LaneBook) (told : List Line)
+-- Memory ran out in the lanes, and no name is touched; or each job has its Book, and with the records that these say to
+-- be refused the tenants were written.
+pub record JobsRan (tells : Type 0) (out : List ℕ) (workers : ℕ) (set : List Chain) (inputs : List TenantInput)
+    (first before now : Held) (old new : List LaneBook) (told : List Line)
     (r : Result (Unit {0}) NoMemory) : Type 0 where
   pub added : List LaneBook
   pub adds : Adds workers (jobs_of 0 set inputs) old new added
   pub ran : (IsErr r × (now ≡ before))
-      ⊎ (AllZip (IsBookOf workers) (jobs_of 0 set inputs) added × WroteAll tells out 0 (refused_by (jobs_of 0 set inputs) added) set inputs first.faults before now [] told r)
+      ⊎ (AllZip (IsBookOf workers) (jobs_of 0 set inputs) added
+      × WroteAll tells out 0 (refused_by (jobs_of 0 set inputs) added) set inputs first.faults before now [] told r)
 
 -- of each line that tells that a capture was read whole there is a job, in order, and each job has its Book
 pub record HaveBooks (workers : ℕ) (jobs : List Job) (added : List LaneBook) (lines : List Line) : Type 0 where
@@ -62,7 +65,8 @@ module _ (tells : Type 0) (out : List ℕ) (workers : ℕ) (set : List Chain) (f
     pub are : tells → AllByRecursion (IsJob set first.files) jobs
     pub all : tells → (added ≡ []) ⊎ HaveJobs jobs
     pub touched : tells → AllStay first.files now.files ⊎ AllZip (IsBookOf workers) jobs added
-    pub others : tells → (t : ℕ) (chain : Chain) → IsTenant set t chain → ¬ (Contains (numbers_in jobs) t) → NoneTouched (file_names out chain) first.files now.files
+    pub others : tells → (t : ℕ) (chain : Chain) → IsTenant set t chain → ¬ (Contains (numbers_in jobs) t)
+        → NoneTouched (file_names out chain) first.files now.files
     pub ran : AllRan tells out (refused_by jobs added) set first now r
     pub books : LinesHaveBooks workers jobs added r
 
@@ -76,15 +80,18 @@ OutcomeHasBooks workers jobs added outcome.NoMemory = Unit {0}
 OutcomeHasBooks workers jobs added (Checked names) = Unit {0}
 OutcomeHasBooks workers jobs added (Reported lines) = HaveBooks workers jobs added lines
 
-pub record FilesRan (tells : Type 0) (chains out : List ℕ) (workers : ℕ) (before now : Held) (old new : List LaneBook) (outcome : Outcome) : Type 0 where
+pub record FilesRan (tells : Type 0) (chains out : List ℕ) (workers : ℕ) (before now : Held) (old new : List LaneBook)
+    (outcome : Outcome) : Type 0 where
   pub jobs : List Job
   pub added : List LaneBook
   pub adds : Adds workers jobs old new added
   pub rising : AreRisingNumbers (numbers_in jobs)
   pub are_jobs : tells → AreJobs chains out before.files jobs
-  pub all : tells → (added ≡ []) ⊎ ((set : List Chain) → Says chains out before.files set → HaveJobs tells out workers set before now jobs)
+  pub all : tells → (added ≡ [])
+      ⊎ ((set : List Chain) → Says chains out before.files set → HaveJobs tells out workers set before now jobs)
   pub touched : tells → AllStay before.files now.files ⊎ AllZip (IsBookOf workers) jobs added
-  pub others : tells → (set : List Chain) (t : ℕ) (chain : Chain) → Says chains out before.files set → IsTenant set t chain → ¬ (Contains (numbers_in jobs) t)
+  pub others : tells → (set : List Chain) (t : ℕ) (chain : Chain) → Says chains out before.files set
+      → IsTenant set t chain → ¬ (Contains (numbers_in jobs) t)
       → NoneTouched (file_names out chain) before.files now.files
   pub is_true : IsTrueOf tells chains out (refused_by jobs added) before now outcome
   pub books : OutcomeHasBooks workers jobs added outcome

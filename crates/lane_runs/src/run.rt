@@ -40,21 +40,26 @@ fn run_jobs<S: Store, K: LaneKit, R: Threads + Wait + Sync>(
 ) -> Result<(), NoMemory>
     requires workers { (1 ≤ workers) × (workers ≤ 16) }
     requires few { (length tenants.now ≤ 16) × (length jobs.now ≤ 16) }
-    requires tenants { (set : List spec.Chain) × (inputs : List input.TenantInput) × AreTenants 0 set inputs tenants.now × (map job_view jobs.now ≡ map unnumbered (jobs_of 0 set inputs)) }
+    requires tenants { (set : List spec.Chain) × (inputs : List input.TenantInput)
+        × AreTenants 0 set inputs tenants.now × (map job_view jobs.now ≡ map unnumbered (jobs_of 0 set inputs)) }
     requires no_lines { lines.old.items ≡ [] }
     ensures open_lanes { K.open_lanes kit.new ≡ K.open_lanes kit.old }
-    ensures ran { (first : Held) (set : List spec.Chain) (inputs : List input.TenantInput) → CanRun (IsTrue S.tells) out.now 0 set first (held (S.file store.old) (S.faults store.old)) inputs
+    ensures ran { (first : Held) (set : List spec.Chain) (inputs : List input.TenantInput)
+        → CanRun (IsTrue S.tells) out.now 0 set first (held (S.file store.old) (S.faults store.old)) inputs
         → AreTenants 0 set inputs tenants.now → map job_view jobs.now ≡ map unnumbered (jobs_of 0 set inputs)
-        → JobsRan (IsTrue S.tells) out.now workers set inputs first (held (S.file store.old) (S.faults store.old)) (held (S.file store.new) (S.faults store.new))
+        → JobsRan (IsTrue S.tells) out.now workers set inputs first (held (S.file store.old) (S.faults store.old))
+        (held (S.file store.new) (S.faults store.new))
         (K.books kit.old) (K.books kit.new) (map line_view lines.new.items) result }
     ensures later { (a : ℕ) (n : List ℕ) → S.faults store.old a n ≤ S.faults store.new a n }
-    ensures others { (a : ℕ) (n : List ℕ) → 2 * length tenants.now < a → S.faults store.new a n ≡ S.faults store.old a n }
+    ensures others { (a : ℕ) (n : List ℕ) → 2 * length tenants.now < a
+        → S.faults store.new a n ≡ S.faults store.old a n }
 {
     let done = make_tenants::<K, TenantWork, R>(rt, alloc, kit, jobs, workers)?;
     write_tenants(alloc, store, 0, tenants, jobs, &done, out, lines)
 }
 
-/// Reads the captures of all tenants, runs those over lanes that were read whole, and writes the files. There is a line for each tenant.
+/// Reads the captures of all tenants, runs those over lanes that were read whole, and writes the files. There is a line
+/// for each tenant.
 fn run_set<S: Store, K: LaneKit, R: Threads + Wait + Sync>(
     rt: &R,
     alloc: Global,
@@ -68,16 +73,17 @@ fn run_set<S: Store, K: LaneKit, R: Threads + Wait + Sync>(
     requires few { length chains.items ≤ 16 }
     requires apart { AllApart out.now (map chain_view chains.items) }
     ensures open_lanes { K.open_lanes kit.new ≡ K.open_lanes kit.old }
-    ensures ran { SetRan (IsTrue S.tells) out.now workers (map chain_view chains.items) (held (S.file store.old) (S.faults store.old)) (held (S.file store.new) (S.faults store.new))
+    ensures ran { SetRan (IsTrue S.tells) out.now workers (map chain_view chains.items)
+        (held (S.file store.old) (S.faults store.old)) (held (S.file store.new) (S.faults store.new))
         (K.books kit.old) (K.books kit.new) result }
-    ensures others { (a : ℕ) (n : List ℕ) → 2 * length chains.items < a → S.faults store.new a n ≡ S.faults store.old a n }
+    ensures others { (a : ℕ) (n : List ℕ) → 2 * length chains.items < a
+        → S.faults store.new a n ≡ S.faults store.old a n }
 {
     let mut inputs = Vec::new(alloc);
-    let mut jobs = Vec::new(alloc);
     let mut tenants = Vec::new(alloc);
     let mut lines = Vec::new(alloc);
     read_tenants(alloc, store, 0, &chains, &mut inputs)?;
-    part_tenants(alloc, chains, inputs, &mut jobs, &mut tenants)?;
+    let jobs = part_tenants(rt, alloc, chains, inputs, &mut tenants)?;
     run_jobs::<S, K, R>(
         rt, alloc, store, kit, &tenants, &jobs, workers, out, &mut lines,
     )?;
@@ -96,7 +102,8 @@ pub fn run_files<S: Store, K: LaneKit, R: Threads + Wait + Sync>(
 ) -> Outcome
     requires workers { (1 ≤ workers) × (workers ≤ 16) }
     ensures open_lanes { K.open_lanes kit.new ≡ K.open_lanes kit.old }
-    ensures ran { FilesRan (IsTrue S.tells) chains.now out.now workers (held (S.file store.old) (S.faults store.old)) (held (S.file store.new) (S.faults store.new))
+    ensures ran { FilesRan (IsTrue S.tells) chains.now out.now workers (held (S.file store.old) (S.faults store.old))
+        (held (S.file store.new) (S.faults store.new))
         (K.books kit.old) (K.books kit.new) (outcome_view result) }
     ensures counts { (a : ℕ) (n : List ℕ) → 32 < a → S.faults store.new a n ≡ S.faults store.old a n }
     ensures tenants { IsTrue S.tells → (set : List spec.Chain) → Says chains.now out.now (S.file store.old) set

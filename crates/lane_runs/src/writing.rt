@@ -30,10 +30,13 @@ fn write_tenant<S: Store>(
 ) -> Result<TenantEnd, NoMemory>
     requires few { tenant < 16 }
     requires done { IsDoneAt jobs.now done.now part }
-    ensures ran { (chain : spec.Chain) (refused : List ℕ) (i : input.TenantInput) → IsReady jobs.now done.now chain refused i part
-        → RanOn (IsTrue S.tells) out.now tenant chain refused i (held (S.file store.old) (S.faults store.old)) (held (S.file store.new) (S.faults store.new)) result }
+    ensures ran { (chain : spec.Chain) (refused : List ℕ) (i : input.TenantInput)
+        → IsReady jobs.now done.now chain refused i part
+        → RanOn (IsTrue S.tells) out.now tenant chain refused i (held (S.file store.old) (S.faults store.old))
+        (held (S.file store.new) (S.faults store.new)) result }
     ensures later { (a : ℕ) (n : List ℕ) → S.faults store.old a n ≤ S.faults store.new a n }
-    ensures others { (a : ℕ) (n : List ℕ) → a ≢ writing_account tenant → S.faults store.new a n ≡ S.faults store.old a n }
+    ensures others { (a : ℕ) (n : List ℕ) → a ≢ writing_account tenant
+        → S.faults store.new a n ≡ S.faults store.old a n }
 {
     match part {
         Part::Job(place) => {
@@ -54,7 +57,8 @@ fn write_tenant<S: Store>(
     }
 }
 
-/// Writes the files of these tenants, which are numbered from `tenant`, one after another, and puts a line of each behind the others.
+/// Writes the files of these tenants, which are numbered from `tenant`, one after another, and puts a line of each
+/// behind the others.
 pub fn write_tenants<S: Store>(
     alloc: Global,
     store: &mut S,
@@ -68,11 +72,14 @@ pub fn write_tenants<S: Store>(
     requires few { tenant + length tenants.now ≤ 16 }
     requires done { AllByRecursion (λ w. IsDoneAt jobs.now done.now w.part) tenants.now }
     ensures wrote { (first : Held) (set : List spec.Chain) (inputs : List input.TenantInput) (refused : Refusals)
-        → CanWrite (IsTrue S.tells) out.now tenant refused set inputs first (held (S.file store.old) (S.faults store.old)) jobs.now done.now tenants.now
-        → WroteAll (IsTrue S.tells) out.now tenant refused set inputs first.faults (held (S.file store.old) (S.faults store.old)) (held (S.file store.new) (S.faults store.new))
+        → CanWrite (IsTrue S.tells) out.now tenant refused set inputs first
+        (held (S.file store.old) (S.faults store.old)) jobs.now done.now tenants.now
+        → WroteAll (IsTrue S.tells) out.now tenant refused set inputs first.faults
+        (held (S.file store.old) (S.faults store.old)) (held (S.file store.new) (S.faults store.new))
         (map line_view lines.old.items) (map line_view lines.new.items) result }
     ensures later { (a : ℕ) (n : List ℕ) → S.faults store.old a n ≤ S.faults store.new a n }
-    ensures others { (a : ℕ) (n : List ℕ) → 2 * (tenant + length tenants.now) < a → S.faults store.new a n ≡ S.faults store.old a n }
+    ensures others { (a : ℕ) (n : List ℕ) → 2 * (tenant + length tenants.now) < a
+        → S.faults store.new a n ≡ S.faults store.old a n }
 {
     let Some((first, more)) = tenants.split_first() else {
         return Ok(());

@@ -1,1 +1,2 @@
 pub mod Dones
+pub mod Jobs

@@ -11,5 +11,5 @@ mod job;
 mod made;
 mod works;
 
-pub use job::new_job;
+pub use job::{TenantCapture, new_job, new_jobs};
 pub use made::make_tenants;

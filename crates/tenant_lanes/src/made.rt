@@ -24,8 +24,8 @@ fn answers_mean<W: NewWork>()
     ensures { (p : Plan) (list : List ClassedItem) (n : ℕ) → W.ChainWork.answer p list n ≡ flows.answer p list n }
 {}
 
-/// What the chain of each job makes of its capture, over a lane for each job and so many workers over all lanes. The works of all jobs
-/// are made before the first lane starts.
+/// What the chain of each job makes of its capture, over a lane for each job and so many workers over all lanes. The
+/// works of all jobs are made before the first lane starts.
 pub fn make_tenants<K: LaneKit, W: NewWork, R: Threads + Wait + Sync>(
     rt: &R,
     alloc: Global,
@@ -36,9 +36,11 @@ pub fn make_tenants<K: LaneKit, W: NewWork, R: Threads + Wait + Sync>(
     requires workers { (1 ≤ workers) × (workers ≤ 16) }
     requires jobs { length jobs.now ≤ 16 }
     ensures open_lanes { K.open_lanes kit.new ≡ K.open_lanes kit.old }
-    ensures done { IfOk result (λ done. (bs : List LaneBook) × (K.books kit.new ≡ K.books kit.old ++ bs) × AllZip (IsBookOf workers) (map job_view jobs.now) bs
+    ensures done { IfOk result (λ done. (bs : List LaneBook) × (K.books kit.new ≡ K.books kit.old ++ bs)
+        × AllZip (IsBookOf workers) (map job_view jobs.now) bs
         × AllMade (map job_view jobs.now) bs done.items) }
-    ensures no_memory { OnErr result ((bs : List LaneBook) × (K.books kit.new ≡ K.books kit.old ++ bs) × AllZip (IsPartBook workers) (take (length bs) (map job_view jobs.now)) bs) }
+    ensures no_memory { OnErr result ((bs : List LaneBook) × (K.books kit.new ≡ K.books kit.old ++ bs)
+        × AllZip (IsPartBook workers) (take (length bs) (map job_view jobs.now)) bs) }
 {
     answers_mean::<W>();
     workers_make_tenant();

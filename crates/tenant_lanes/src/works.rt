@@ -9,7 +9,9 @@ use work_core::{NewWork, TenantJob};
 
 /// The works of a job, one for each worker.
 fn new_works<W: NewWork>(alloc: Global, job: &TenantJob, workers: u32) -> Result<Vec<W>, NoMemory>
-    ensures { IfOk result (AreNewWorks W.ChainWork.follows W.ChainWork.ready W.ChainWork.stands W.ChainWork.ended W.ChainWork.broken workers job.now) }
+    ensures { IfOk result
+        (AreNewWorks W.ChainWork.follows W.ChainWork.ready W.ChainWork.stands W.ChainWork.ended W.ChainWork.broken
+        workers job.now) }
 {
     let mut works = Vec::with_capacity(alloc, workers as usize)?;
     'each: for w in 0..workers {
@@ -25,7 +27,9 @@ pub fn all_new_works<W: NewWork>(
     jobs: &[TenantJob],
     workers: u32,
 ) -> Result<Vec<Vec<W>>, NoMemory>
-    ensures { IfOk result (λ works. Across (AreNewWorks W.ChainWork.follows W.ChainWork.ready W.ChainWork.stands W.ChainWork.ended W.ChainWork.broken workers) jobs.now works.items) }
+    ensures { IfOk result
+        (λ works. Across (AreNewWorks W.ChainWork.follows W.ChainWork.ready W.ChainWork.stands W.ChainWork.ended
+        W.ChainWork.broken workers) jobs.now works.items) }
 {
     let mut works = Vec::with_capacity(alloc, jobs.len())?;
     'each: for job in jobs {

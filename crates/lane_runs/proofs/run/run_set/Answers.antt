@@ -30,15 +30,15 @@ part_tenants-requires-clause-count g c =
     let long : length (map chain_view c.deref.result.now) ≡ length read.0 = inputs_long (IsTrue g.S.Store.tells) 0 (map chain_view c.deref.result.now) _ _ read.0 read.2 in
     omega (arith, long, length-map c.deref.result.now chain_view, ap length is, ap length c.deref.ensures.value)
 
-pub returns-in_err-part_tenants-clause-ran : goal.returns-in_err-part_tenants-clause-ran
-returns-in_err-part_tenants-clause-ran g c =
+pub returns-in_err-jobs-clause-ran : goal.returns-in_err-jobs-clause-ran
+returns-in_err-jobs-clause-ran g c =
     set_none (IsTrue g.S.Store.tells) c.args.out.now c.args.workers (map chain_view c.args.chains.items) (held (g.S.Store.file c.args.store.now) (g.S.Store.faults c.args.store.now))
-    (held (g.S.Store.file c.read_tenants.new.store) (g.S.Store.faults c.read_tenants.new.store)) _ _ _ c.from_residual-in_err-part_tenants.ensures.0 c.read_tenants.ensures.held refl
+    (held (g.S.Store.file c.read_tenants.new.store) (g.S.Store.faults c.read_tenants.new.store)) _ _ _ c.from_residual-in_err-jobs.ensures.0 c.read_tenants.ensures.held refl
 
 pub run_jobs-requires-clause-few : goal.run_jobs-requires-clause-few
 run_jobs-requires-clause-few g c κs within = (
-  omega (arith, ap length c.deref-2.ensures.value, c.in_ok-part_tenants.ensures.count, c.requires.few),
-  omega (arith, ap length c.deref-3.ensures.value, c.in_ok-part_tenants.ensures.few, c.requires.few),
+  omega (arith, ap length c.deref-2.ensures.value, c.in_ok-jobs.ensures.count, c.requires.few),
+  omega (arith, ap length c.deref-3.ensures.value, c.in_ok-jobs.ensures.few, c.requires.few),
 )
 
 pub returns-in_err-run_jobs-clause-ran : goal.returns-in_err-run_jobs-clause-ran
@@ -56,8 +56,8 @@ returns-in_err-run_jobs-clause-ran g c =
       later = c.in_ok-read_tenants.ensures.later;
       apart = c.requires.apart;
     } in
-    let are = subst (λ (ws : List Tenant). AreTenants 0 set inputs ws) (sym c.deref-2.ensures.value) c.in_ok-part_tenants.ensures.tenants in
-    let views = ap (map job_view) c.deref-3.ensures.value ∙ c.in_ok-part_tenants.ensures.jobs in
+    let are = subst (λ (ws : List Tenant). AreTenants 0 set inputs ws) (sym c.deref-2.ensures.value) c.in_ok-jobs.ensures.tenants in
+    let views = ap (map job_view) c.deref-3.ensures.value ∙ c.in_ok-jobs.ensures.jobs in
     set_failed (IsTrue g.S.Store.tells) c.args.out.now c.args.workers set first (held (g.S.Store.file c.run_jobs.new.store) (g.S.Store.faults c.run_jobs.new.store)) (g.K.LaneKit.books c.args.kit.now)
     (g.K.LaneKit.books c.run_jobs.new.kit) inputs mid can c.in_ok-read_tenants.ensures.held c.run_jobs.ensures.later (map line_view c.run_jobs.new.lines.items) c.run_jobs.result
     (c.run_jobs.ensures.ran first set inputs can are views) (err_of c.run_jobs.result _ c.in_err-run_jobs.was) _ c.from_residual-in_err-run_jobs.ensures.0
@@ -77,8 +77,8 @@ returns-clause-ran g c =
       later = c.in_ok-read_tenants.ensures.later;
       apart = c.requires.apart;
     } in
-    let are = subst (λ (ws : List Tenant). AreTenants 0 set inputs ws) (sym c.deref-2.ensures.value) c.in_ok-part_tenants.ensures.tenants in
-    let views = ap (map job_view) c.deref-3.ensures.value ∙ c.in_ok-part_tenants.ensures.jobs in
+    let are = subst (λ (ws : List Tenant). AreTenants 0 set inputs ws) (sym c.deref-2.ensures.value) c.in_ok-jobs.ensures.tenants in
+    let views = ap (map job_view) c.deref-3.ensures.value ∙ c.in_ok-jobs.ensures.jobs in
     set_ran (IsTrue g.S.Store.tells) c.args.out.now c.args.workers set first (held (g.S.Store.file c.run_jobs.new.store) (g.S.Store.faults c.run_jobs.new.store)) (g.K.LaneKit.books c.args.kit.now)
     (g.K.LaneKit.books c.run_jobs.new.kit) inputs mid can c.in_ok-read_tenants.ensures.held c.run_jobs.ensures.later (map line_view c.run_jobs.new.lines.items)
     (subst (JobsRan (IsTrue g.S.Store.tells) c.args.out.now c.args.workers set inputs first mid (held (g.S.Store.file c.run_jobs.new.store) (g.S.Store.faults c.run_jobs.new.store)) (g.K.LaneKit.books c.args.kit.now)
