@@ -80,6 +80,37 @@ fn give_piece<S: Store>(
     Ok(())
 }
 
+/// Puts bytes behind those that wait, piece by piece: the store is given what waits as often as it is a whole piece.
+#[inline(never)]
+fn put_pieces<S: Store>(
+    store: &mut S,
+    account: u32,
+    name: &str,
+    waiting: &mut Vec<u8>,
+    bytes: &[u8],
+) -> Result<(), IoFault>
+    requires account { IsWriting account }
+    requires room { length waiting.old.items < 1048576 }
+    requires there { IsTrue S.tells → IsThere name.now (S.file store.old) }
+    ensures room { OnOk result (length waiting.new.items < 1048576) }
+    ensures ok { IsTrue S.tells
+        → OnOk result (Puts name.now (waiting.old.items
+        ++ bytes.now) waiting.new.items (S.file store.old) (S.file store.new)) }
+    ensures grows { IsTrue S.tells
+        → Grows name.now (waiting.old.items ++ bytes.now) (S.file store.old) (S.file store.new) }
+    ensures cause { Causes account name.now (S.faults store.old) (S.faults store.new) (IsErrOf result IoFault.Failed) }
+{
+    let mut rest = bytes;
+    while !rest.is_empty() {
+        let room = PIECE - waiting.len();
+        let (front, after) = rest.split_at(rest.len().min(room));
+        waiting.extend_from_slice(front)?;
+        give_piece(store, account, name, waiting)?;
+        rest = after;
+    }
+    Ok(())
+}
+
 /// Puts bytes behind those that wait, and gives the store what waits as often as it is a whole piece.
 fn put<S: Store>(
     store: &mut S,
@@ -103,15 +134,7 @@ fn put<S: Store>(
         waiting.extend_from_slice(bytes)?;
         return Ok(());
     }
-    let mut rest = bytes;
-    while !rest.is_empty() {
-        let room = PIECE - waiting.len();
-        let (front, after) = rest.split_at(rest.len().min(room));
-        waiting.extend_from_slice(front)?;
-        give_piece(store, account, name, waiting)?;
-        rest = after;
-    }
-    Ok(())
+    put_pieces(store, account, name, waiting, bytes)
 }
 
 /// Puts an item's record behind what waits.

@@ -2,7 +2,7 @@ use Rattle.std.proofs.Common.{◌<◌, ◌++◌, length}
 use Rattle.std.specs.Prelude.{IsTrue}
 use Rattle.store_files.specs.WholeFiles.{Puts}
 use Rattle.store_files.proofs.Loops.{Later}
-use Rattle.store_files.proofs.writing.put.Given as goal
+use Rattle.store_files.proofs.writing.put_pieces.Given as goal
 
 abbrev pub invariant-loop-rest : goal.invariant-loop-rest
 invariant-loop-rest g l = record {
