@@ -9,7 +9,7 @@ ghost use Rattle.work_crew.specs.Records.{records_in, is_big, worker_of, waits, 
 ghost use Rattle.work_crew.specs.JobView.{job_view};
 ghost use Rattle.work_crew.specs.Ingested.{HasIngested, HasSentAll, HasClaimed, RefusedBy};
 
-use crate::pausing::pause;
+use crate::pausing::{FIRST, pause};
 use brick_base::{NoMemory, Numbers};
 use chain_types::Dry;
 use lane_core::LaneKit;
@@ -26,12 +26,12 @@ fn claim_one<K: LaneKit, R: Wait>(rt: &R, lane: &K::Lane, seat: &mut K::Ingest) 
     ensures room { result.room ≡ (K.lane_facts lane.now).bytes }
     ensures claimed { HasClaimed result.slot (K.ingest_facts seat.old) (K.ingest_facts seat.new) }
 {
-    let mut misses = 0;
+    let mut misses = FIRST;
     for _ in rt.forever() {
         if let Some(buffer) = K::claim(rt, lane, seat) {
             return buffer;
         }
-        misses = pause(misses);
+        misses = pause(rt, misses);
     }
     unreachable!()
 }

@@ -6,7 +6,7 @@ ghost use Rattle.work_crew.specs.JobView.{job_view};
 ghost use Rattle.work_crew.specs.Worked.{IsNewWork, HasWorked};
 ghost use Rattle.work_core.specs.declared.job.TenantJob.{TenantJob};
 
-use crate::pausing::pause;
+use crate::pausing::{FIRST, pause};
 use crate::serving::serve;
 use lane_core::LaneKit;
 use std::alloc::Global;
@@ -48,7 +48,7 @@ pub fn worker<K: LaneKit, W: ChainWork, R: Wait>(
         → (p : Plan) → W.follows old p → W.follows new p }
 {
     let mut ended = [false; 16];
-    let mut misses = 0;
+    let mut misses = FIRST;
     'rounds: for _ in rt.forever() {
         let mut all = true;
         let mut most = 0;
@@ -71,10 +71,10 @@ pub fn worker<K: LaneKit, W: ChainWork, R: Wait>(
             return;
         }
         if most > 0 {
-            misses = 0;
+            misses = FIRST;
         }
         if most < 32 {
-            misses = pause(misses);
+            misses = pause(rt, misses);
         }
     }
     unreachable!()
