@@ -6,6 +6,7 @@ mod Grown
 mod Ways
 mod Leaves
 mod Chains
+mod Inside
 mod Needs
 mod Sounds
 mod Balances

@@ -15,11 +15,17 @@ use Rattle.chain_nodes.specs.declared.either.Either.{Either}
 use Rattle.chain_nodes.specs.declared.fan.Fan.{Fan}
 use Rattle.chain_nodes.specs.declared.leaf.LeafList.{LeafList}
 use Rattle.chain_nodes.specs.declared.pipe.Pipe.{Pipe}
+use Rattle.chain_run.specs.declared.places.GroupPlace.{GroupPlace}
+use Rattle.chain_run.specs.declared.places.RootPlace.{RootPlace}
 use Rattle.chain_run.specs.Sound.{IsBareLeaf, IsBareBelow, IsBareGroup}
 use Rattle.chain_run.specs.Tree.{leaf_stands, leaf_results, leaf_serves, leaves_stand, leaves_results, leaves_serve}
 use Rattle.chain_run.specs.Tree.{below_stands, below_results, below_serves, group_stands, group_results, group_serves}
 use Rattle.chain_run.specs.Tree.{groups_stand, groups_results, groups_serve, root_stands, root_results, root_serves}
 use Rattle.chain_run.specs.Tree.{root_makes}
+
+-- what the places of groups have in them
+abbrev pub group_nodes : {P : Type 0} → List (GroupPlace P) → List (places.GroupNode P)
+group_nodes ts = map (λ (t : GroupPlace _). t.place) ts
 
 -- one for one
 abbrev pub AreBuilt : {X T : Type 0} → (X → T → Type 0) → List X → List T → Type 0
@@ -57,16 +63,16 @@ module _ {P : Type 0} (m : Meaning P) (nat : Option NatPlan) (count bytes : ℕ)
     pub bare : IsBareBelow b → below_serves m t count bytes 0
     pub many : length (below_results m t) ≡ leaves_below (below_plan nat b)
 
-  pub record GroupBuilt (g : chains.Group) (t : places.GroupNode P) : Type 0 where
-    pub row : places.group_row m.row t ≡ row_of nat g.stages
-    pub below : places.group_below m.row t ≡ below_plan nat g.below
+  pub record GroupBuilt (g : chains.Group) (t : GroupPlace P) : Type 0 where
+    pub row : places.group_row m.row t.place ≡ row_of nat g.stages
+    pub below : places.group_below m.row t.place ≡ below_plan nat g.below
     pub new : IsNewNode (group_stands m) (group_results m) t
     pub serves : group_serves m t count bytes count
     pub bare : IsBareGroup g → group_serves m t count bytes 0
     pub many : length (group_results m t) ≡ leaves_below (below_plan nat g.below)
 
-  pub record GroupsBuilt (gs : List chains.Group) (f : Fan (places.GroupNode P)) : Type 0 where
-    pub plans : places.group_plans m.row f.groups f.places.items ≡ map (group_plan nat) gs
+  pub record GroupsBuilt (gs : List chains.Group) (f : Fan (GroupPlace P)) : Type 0 where
+    pub plans : places.group_plans m.row f.groups (group_nodes f.places.items) ≡ map (group_plan nat) gs
     pub new : IsNewNode (groups_stand m) (groups_results m) f
     pub serves : groups_serve m f count bytes count
     pub bare : AllByRecursion IsBareGroup gs → groups_serve m f count bytes 0
@@ -74,7 +80,7 @@ module _ {P : Type 0} (m : Meaning P) (nat : Option NatPlan) (count bytes : ℕ)
 
 -- the root of a chain, beside so many spare buffers of so many bytes, which lie ready
 pub record RootBuilt {P : Type 0} (m : Meaning P) (count bytes : ℕ) (chain : chains.Chain)
-    (t : Pipe P (Fan (places.GroupNode P))) : Type 0 where
+    (t : RootPlace P) : Type 0 where
   pub follows : root_makes m t ≡ flow_meaning (plan_of chain)
   pub many : length (root_results m t) ≡ leaf_count (plan_of chain)
   pub new : IsNewNode (root_stands m) (root_results m) t

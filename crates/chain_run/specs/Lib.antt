@@ -1,4 +1,5 @@
 pub mod Sound
 pub mod Tree
+pub mod TreeLaws
 pub mod Built
 pub mod Plain

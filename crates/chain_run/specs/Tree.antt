@@ -11,11 +11,12 @@ use Rattle.flow_work.specs.Node.{ListStands, PipeStands, pipe_makes, fan_makes, 
 use Rattle.chain_nodes.specs.Either.{either_stands, either_makes, either_results, either_serves}
 use Rattle.chain_nodes.specs.Fan.{PlacesStand, FanServes}
 use Rattle.chain_nodes.specs.Node.{PipeServes}
-use Rattle.chain_nodes.specs.PlanOf.{GroupNode}
 use Rattle.chain_nodes.specs.declared.either.Either.{Either}
 use Rattle.chain_nodes.specs.declared.fan.Fan.{Fan}
 use Rattle.chain_nodes.specs.declared.leaf.LeafList.{LeafList}
 use Rattle.chain_nodes.specs.declared.pipe.Pipe.{Pipe}
+use Rattle.chain_run.specs.declared.places.GroupPlace.{GroupPlace}
+use Rattle.chain_run.specs.declared.places.RootPlace.{RootPlace}
 
 abbrev pub list_stands : LeafList → Flow → FlowInput → Parts → Type 0
 list_stands l flow came parts = ListStands came parts
@@ -84,41 +85,44 @@ module _ {P : Type 0} (m : Meaning P) where
   staged_results t = below_results t.next
 
   abbrev pub staged_serves : Pipe P (Either LeafList (Fan (Pipe P LeafList))) → ℕ → ℕ → ℕ → Type 0
-  staged_serves t count bytes free = PipeServes m.ready m.spares m.least_room below_serves t.path t.next t.waiting.items (vec_capacity t.waiting) count bytes free
+  staged_serves t count bytes free = PipeServes m.ready m.spares m.least_room below_serves t.path t.next t.waiting.items
+      (vec_capacity t.waiting) count bytes free
 
-  abbrev pub group_stands : GroupNode P → Flow → FlowInput → Parts → Type 0
-  group_stands = either_stands below_stands staged_stands
+  abbrev pub group_stands : GroupPlace P → Flow → FlowInput → Parts → Type 0
+  group_stands t = either_stands below_stands staged_stands t.place
 
-  abbrev pub group_makes : GroupNode P → made.Meaning
-  group_makes = either_makes below_makes staged_makes
+  abbrev pub group_makes : GroupPlace P → made.Meaning
+  group_makes t = either_makes below_makes staged_makes t.place
 
-  abbrev pub group_results : GroupNode P → List (List Item)
-  group_results = either_results below_results staged_results
+  abbrev pub group_results : GroupPlace P → List (List Item)
+  group_results t = either_results below_results staged_results t.place
 
-  abbrev pub group_serves : GroupNode P → ℕ → ℕ → ℕ → Type 0
-  group_serves = either_serves below_serves staged_serves
+  abbrev pub group_serves : GroupPlace P → ℕ → ℕ → ℕ → Type 0
+  group_serves t = either_serves below_serves staged_serves t.place
 
   -- THE CHAIN
 
-  abbrev pub groups_stand : Fan (GroupNode P) → Flow → FlowInput → Parts → Type 0
+  abbrev pub groups_stand : Fan (GroupPlace P) → Flow → FlowInput → Parts → Type 0
   groups_stand t flow came parts = PlacesStand group_stands t.groups t.places.items flow came parts
 
-  abbrev pub groups_results : Fan (GroupNode P) → List (List Item)
+  abbrev pub groups_make : Fan (GroupPlace P) → made.Meaning
+  groups_make t = fan_makes group_makes t.groups t.places.items
+
+  abbrev pub groups_results : Fan (GroupPlace P) → List (List Item)
   groups_results t = fan_results group_results t.places.items
 
-  abbrev pub groups_serve : Fan (GroupNode P) → ℕ → ℕ → ℕ → Type 0
+  abbrev pub groups_serve : Fan (GroupPlace P) → ℕ → ℕ → ℕ → Type 0
   groups_serve t count bytes free = FanServes group_serves t.groups t.places.items count bytes free
 
-  abbrev pub root_stands : Pipe P (Fan (GroupNode P)) → Flow → FlowInput → Parts → Type 0
-  root_stands t flow came parts = PipeStands m.stands groups_stand t.path t.next flow came parts
+  abbrev pub root_stands : RootPlace P → Flow → FlowInput → Parts → Type 0
+  root_stands t flow came parts = PipeStands m.stands groups_stand t.place.path t.place.next flow came parts
 
-  abbrev pub root_makes : Pipe P (Fan (GroupNode P)) → made.Meaning
-  root_makes t =
-      pipe_makes m.row (λ (f : Fan (GroupNode P)). fan_makes group_makes f.groups f.places.items) t.path t.next
+  abbrev pub root_makes : RootPlace P → made.Meaning
+  root_makes t = pipe_makes m.row groups_make t.place.path t.place.next
 
-  abbrev pub root_results : Pipe P (Fan (GroupNode P)) → List (List Item)
-  root_results t = groups_results t.next
+  abbrev pub root_results : RootPlace P → List (List Item)
+  root_results t = groups_results t.place.next
 
-  abbrev pub root_serves : Pipe P (Fan (GroupNode P)) → ℕ → ℕ → ℕ → Type 0
-  root_serves t count bytes free = PipeServes m.ready m.spares m.least_room groups_serve t.path t.next t.waiting.items
-      (vec_capacity t.waiting) count bytes free
+  abbrev pub root_serves : RootPlace P → ℕ → ℕ → ℕ → Type 0
+  root_serves t count bytes free = PipeServes m.ready m.spares m.least_room groups_serve t.place.path t.place.next
+      t.place.waiting.items (vec_capacity t.place.waiting) count bytes free

@@ -19,9 +19,6 @@ use tcp_udp::Match;
 /// A group without groups in it.
 pub type LeafPlace<P> = Pipe<P, LeafList>;
 
-/// What stands behind a group's stages.
-pub type BelowPlace<P> = Either<LeafList, Fan<Pipe<P, LeafList>>>;
-
 /// The place of a group in a group.
 pub fn build_leaf<P: StagesPath>(
     alloc: Global,

@@ -6,33 +6,22 @@ ghost use Rattle.chain_types.specs.GroupView.{group_view};
 ghost use Rattle.chain_run.specs.Sound.{IsGroupSound};
 ghost use Rattle.chain_run.specs.Built.{AreBuilt, GroupBuilt, GroupsBuilt};
 
-use crate::below::{BelowPlace, build_below};
+use crate::below::build_below;
 use crate::paths::{Site, StagesPath};
+use crate::places::GroupPlace;
 use brick_base::NoMemory;
-use chain_nodes::{Either, Fan, LeafList, Pipe};
+use chain_nodes::{Either, Fan, Pipe};
 use chain_types::{Group, Unparsed};
 use group_merge::Groups;
 use std::alloc::Global;
 use tcp_udp::Match;
-
-/// A group with stages, and what stands behind them.
-pub type StagedPlace<P> = Pipe<P, Either<LeafList, Fan<Pipe<P, LeafList>>>>;
-
-/// A group: where it has no stages, what stands behind them.
-pub type GroupPlace<P> = Either<BelowPlace<P>, StagedPlace<P>>;
 
 /// The place of a group.
 pub fn build_group<P: StagesPath>(
     alloc: Global,
     site: &Site,
     group: &Group,
-) -> Result<
-    Either<
-        Either<LeafList, Fan<Pipe<P, LeafList>>>,
-        Pipe<P, Either<LeafList, Fan<Pipe<P, LeafList>>>>,
-    >,
-    NoMemory,
->
+) -> Result<GroupPlace<P>, NoMemory>
     requires { IsGroupSound (option_map plan_view site.now.nat) site.now.count site.now.bytes 0 (group_view group.now) }
     ensures { IfOk result
         (λ t. GroupBuilt P.Operator.meaning (option_map plan_view site.now.nat) site.now.count site.now.bytes
@@ -40,11 +29,15 @@ pub fn build_group<P: StagesPath>(
 {
     let next = build_below(alloc, site, &group.below)?;
     if group.stages.is_empty() {
-        return Ok(Either::First(next));
+        return Ok(GroupPlace {
+            place: Either::First(next),
+        });
     }
     let path = P::of_stages(alloc, site, Unparsed::Pass, group.stages.as_slice())?;
     let staged = Pipe::new(alloc, path, next, site.count)?;
-    Ok(Either::Second(staged))
+    Ok(GroupPlace {
+        place: Either::Second(staged),
+    })
 }
 
 /// What the groups take.
@@ -64,15 +57,7 @@ fn group_places<P: StagesPath>(
     alloc: Global,
     site: &Site,
     groups: &[Group],
-) -> Result<
-    Vec<
-        Either<
-            Either<LeafList, Fan<Pipe<P, LeafList>>>,
-            Pipe<P, Either<LeafList, Fan<Pipe<P, LeafList>>>>,
-        >,
-    >,
-    NoMemory,
->
+) -> Result<Vec<GroupPlace<P>>, NoMemory>
     requires { AllByRecursion (IsGroupSound (option_map plan_view site.now.nat) site.now.count site.now.bytes 0)
         (map group_view groups.now) }
     ensures { IfOk result
@@ -92,15 +77,7 @@ pub fn build_groups<P: StagesPath>(
     alloc: Global,
     site: &Site,
     groups: &[Group],
-) -> Result<
-    Fan<
-        Either<
-            Either<LeafList, Fan<Pipe<P, LeafList>>>,
-            Pipe<P, Either<LeafList, Fan<Pipe<P, LeafList>>>>,
-        >,
-    >,
-    NoMemory,
->
+) -> Result<Fan<GroupPlace<P>>, NoMemory>
     requires many { (1 ≤ length groups.now) × (length groups.now ≤ 16) }
     requires sound { AllByRecursion (IsGroupSound (option_map plan_view site.now.nat) site.now.count site.now.bytes 0)
         (map group_view groups.now) }

@@ -6,10 +6,11 @@ ghost use Rattle.work_core.specs.AnswerLaws.{plan_answer, plan_lists, plan_rises
 
 use crate::need::need_of;
 use crate::paths::StagesPath;
+use crate::places::RootPlace;
 use crate::root::build_root;
 use batch_ops::Batch;
 use brick_base::NoMemory;
-use chain_nodes::{Either, Fan, LeafList, NodeWork, Pipe};
+use chain_nodes::NodeWork;
 use chain_types::Chain;
 use packet_owner::Spare;
 use std::alloc::Global;
@@ -19,17 +20,7 @@ use work_core::{ChainWork, NewWork, Returned, WorkResult};
 /// A tenant's chain at work, over paths of one kind.
 #[derive(Drop)]
 pub struct TreeWork<P: StagesPath> {
-    work: NodeWork<
-        Pipe<
-            P,
-            Fan<
-                Either<
-                    Either<LeafList, Fan<Pipe<P, LeafList>>>,
-                    Pipe<P, Either<LeafList, Fan<Pipe<P, LeafList>>>>,
-                >,
-            >,
-        >,
-    >,
+    work: NodeWork<RootPlace<P>>,
 }
 
 /// The name of its type alone: what it keeps has the form of its chain.

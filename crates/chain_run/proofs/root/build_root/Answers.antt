@@ -1,4 +1,4 @@
-use Rattle.std.proofs.Common.{List, map, sym, subst}
+use Rattle.std.proofs.Common.{List, Ok, map, sym, subst}
 use Rattle.std.specs.List.{AllByRecursion}
 use Rattle.chain_spec.specs.ChainSet.{windows_in}
 use Rattle.chain_types.specs.GroupView.{group_view}
@@ -21,9 +21,9 @@ build_groups-requires-clause-sound g c =
 
 pub returns : goal.returns
 returns g c =
-    let e = c.new.ensures in
+    let e = c.in_ok-place.ensures in
     let v = chain_view c.args.chain.now in
-    root_made g.P.Operator.meaning c.args.count c.args.bytes v c.in_ok-path.path c.in_ok-next.next c.new.result c.requires
+    root_made g.P.Operator.meaning c.args.count c.args.bytes v c.in_ok-path.path c.in_ok-next.next (Ok c.in_ok-place.place) c.requires
     (subst (λ (ss : List Stage). IsPath g.P.Operator.meaning v.nat c.args.count c.args.bytes (before_stages v.unparsed) (stages_view ss) c.in_ok-path.path) c.as_slice.ensures.value c.in_ok-path.ensures)
     (subst (λ (gs : List Group). GroupsBuilt g.P.Operator.meaning v.nat c.args.count c.args.bytes (map group_view gs) c.in_ok-next.next) c.as_slice-2.ensures.value c.in_ok-next.ensures)
     e.path e.next e.none_waits e.has_room
