@@ -14,5 +14,5 @@ build_leaf-requires g c =
 pub loop-leaf-preserved : goal.loop-leaf-preserved
 loop-leaf-preserved g c =
     let s = c.args.site.now in
-    built_next leaf_view (LeafBuilt g.P.Operator.meaning (option_map plan_view s.nat) s.count s.bytes) c.args.leaves.now c.loop-leaf.places.items _ c.loop-leaf.leaf-index c.leaf-item.result c.in_ok-place.place c.loop-leaf-test.true c.leaf-item.is
+    built_next leaf_view (LeafBuilt g.P.Operator.meaning (option_map plan_view s.nat) s.count s.bytes) c.args.leaves.now c.loop-leaf.places.items c.push.new.self.items c.loop-leaf.leaf-index c.leaf-item.result c.in_ok-place.place c.loop-leaf-test.true c.leaf-item.is
     c.loop-leaf.invariant c.in_ok-push.ensures.items c.in_ok-place.ensures

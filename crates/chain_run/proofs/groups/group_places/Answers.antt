@@ -14,5 +14,5 @@ build_group-requires g c =
 pub loop-group-preserved : goal.loop-group-preserved
 loop-group-preserved g c =
     let s = c.args.site.now in
-    built_next group_view (GroupBuilt g.P.Operator.meaning (option_map plan_view s.nat) s.count s.bytes) c.args.groups.now c.loop-group.places.items _ c.loop-group.group-index c.group-item.result c.in_ok-place.place c.loop-group-test.true c.group-item.is
+    built_next group_view (GroupBuilt g.P.Operator.meaning (option_map plan_view s.nat) s.count s.bytes) c.args.groups.now c.loop-group.places.items c.push.new.self.items c.loop-group.group-index c.group-item.result c.in_ok-place.place c.loop-group-test.true c.group-item.is
     c.loop-group.invariant c.in_ok-push.ensures.items c.in_ok-place.ensures
