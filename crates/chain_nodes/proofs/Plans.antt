@@ -52,7 +52,7 @@ module _ {P : Type 0} (row_at : P → Flow → List FlowStage) where
   group_is flow (First b) = bare_is flow b
   group_is flow (Second t) = below_is flow t.path t.next
 
-  groups_are : (flow : Flow) (ms : List (Option Match)) (ts : List (GroupNode P)) → fan_parts group_made flow ms ts ≡ map (group_part flow) (group_plans row_at ms ts)
+  pub groups_are : (flow : Flow) (ms : List (Option Match)) (ts : List (GroupNode P)) → fan_parts group_made flow ms ts ≡ map (group_part flow) (group_plans row_at ms ts)
   groups_are flow [] ts = refl
   groups_are flow (m ∷ ms) [] = refl
   groups_are flow (m ∷ ms) (t ∷ ts) =

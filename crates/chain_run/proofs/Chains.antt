@@ -15,7 +15,7 @@ use Rattle.flow_work.specs.Node.{fan_parts, fan_results}
 use Rattle.chain_spec.specs.ChainSet as chains
 use Rattle.chain_spec.specs.ChainSet.{windows_in}
 use Rattle.tenant_spec.specs.ChainPlan.{row_of, before_stages, group_plan}
-use Rattle.chain_nodes.proofs.Plans.{root_means}
+use Rattle.chain_nodes.proofs.Plans.{groups_are}
 use Rattle.chain_nodes.specs.Either.{either_makes}
 use Rattle.chain_nodes.specs.NewNodes.{pipe_new, fan_new}
 use Rattle.chain_nodes.specs.PlanOf as places
@@ -98,24 +98,11 @@ parts_inside inside makes flow [] ts = refl
 parts_inside inside makes flow (m ∷ ms) [] = refl
 parts_inside inside makes flow (m ∷ ms) (t ∷ ts) = ap (λ ps. record { takes = takes_by m; makes = makes (inside t) flow } ∷ ps) (parts_inside inside makes flow ms ts)
 
--- what a chain is, with what the places of its groups have in them
-abbrev root_pipe : {P : Type 0} → RootPlace P → Pipe P (Fan (places.GroupNode P))
-root_pipe t =
-    let v = t.place.next.places in
-    record {
-      path = t.place.path;
-      next = record {
-        groups = t.place.next.groups;
-        places = record { ptr = v.ptr; len = v.len; cap = v.cap; alloc = v.alloc; items = group_nodes v.items; ok = (v.ok.0 ∙ sym (length-map v.items _), v.ok.1); small = v.small };
-      };
-      waiting = t.place.waiting;
-    }
-
 module _ {P : Type 0} (m : Meaning P) (count bytes : ℕ) where
   root_follows : (t : RootPlace P) → root_makes m t ≡ flow_meaning (record { row = m.row t.place.path; groups = places.group_plans m.row t.place.next.groups (group_nodes t.place.next.places.items) })
   root_follows t =
       (λ i flow came. staged_by (m.row t.place.path flow) (shared (parts_inside (λ (u : GroupPlace P). u.place) (either_makes (below_makes m) (staged_makes m)) flow t.place.next.groups t.place.next.places.items i)) came)
-      ∙ root_means m.row (root_pipe t)
+      ∙ (λ i flow came. staged_by (m.row t.place.path flow) (shared (groups_are m.row flow t.place.next.groups (group_nodes t.place.next.places.items) i)) came)
 
   pub root_made : (chain : chains.Chain) (p : P) (f : Fan (GroupPlace P)) (r : Result (Pipe P (Fan (GroupPlace P))) NoMemory) → IsChainSound count bytes chain
       → IsPath m chain.nat count bytes (before_stages chain.unparsed) chain.stages p → GroupsBuilt m chain.nat count bytes chain.groups f

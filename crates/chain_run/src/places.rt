@@ -11,6 +11,7 @@ use chain_nodes::{Desk, Either, Fan, LeafList, Node, Pipe};
 use packet_owner::Packet;
 use pcap_io::Items;
 use std::alloc::Global;
+use std::fmt;
 
 /// A group: where it has no stages, what stands behind them.
 #[derive(Drop)]
@@ -19,6 +20,13 @@ pub struct GroupPlace<P: StagesPath> {
         Either<LeafList, Fan<Pipe<P, LeafList>>>,
         Pipe<P, Either<LeafList, Fan<Pipe<P, LeafList>>>>,
     >,
+}
+
+/// The name of its type alone: what it keeps has the form of its chain.
+impl<P: StagesPath> fmt::Debug for GroupPlace<P> {
+    fn fmt<W: fmt::Write>(&self, f: &mut fmt::Formatter<W>) -> fmt::Result {
+        f.debug_struct("GroupPlace").finish_non_exhaustive()
+    }
 }
 
 impl<P: StagesPath> Node for GroupPlace<P> {
@@ -63,6 +71,13 @@ impl<P: StagesPath> Node for GroupPlace<P> {
 #[derive(Drop)]
 pub struct RootPlace<P: StagesPath> {
     pub place: Pipe<P, Fan<GroupPlace<P>>>,
+}
+
+/// The name of its type alone: what it keeps has the form of its chain.
+impl<P: StagesPath> fmt::Debug for RootPlace<P> {
+    fn fmt<W: fmt::Write>(&self, f: &mut fmt::Formatter<W>) -> fmt::Result {
+        f.debug_struct("RootPlace").finish_non_exhaustive()
+    }
 }
 
 impl<P: StagesPath> Node for RootPlace<P> {
