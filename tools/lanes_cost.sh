@@ -1,7 +1,8 @@
 #!/bin/sh
 # Counts the instructions that mode `run` with one worker takes a record beside those of mode `inline`, over 20,000 records of 64 bytes, and
-# fails where they are more than 1.6 times as many. Then it times three tenants of 60,000 records each, inline and with four workers, and
-# tells the ratio. Wants valgrind and python3.
+# fails where they are more than 1.6 times as many. Then it times three tenants of 60,000 records each, inline and with one to four workers,
+# for `ttl` and `only`, which do least for a record, and for a firewall of 256 rules before a route of 64 rows, and fails where four workers
+# take longer than inline at the latter. Wants valgrind, python3, and four processors that do nothing else.
 top=$(cd "$(dirname "$0")/.." && pwd) || exit 1
 for tool in valgrind python3; do
     if ! command -v $tool >/dev/null 2>&1; then
@@ -40,12 +41,20 @@ inline=$(each inline) || exit 1
 run=$(each run) || exit 1
 echo "inline: $inline instructions a record; run with one worker: $run"
 
-mkdir many
-for tenant in a b c; do
-    python3 "$top/tools/make_records.py" 60000 "many/$tenant.pcap" "many/$tenant.toml" "$stages"
-    sed -e "s/name = \"a\"/name = \"$tenant\"/" -e '/^version/d' "many/$tenant.toml" >>many/tenants
-done
-{ echo "version = 1"; cat many/tenants; } >many.toml
+# a chain file of three tenants with these stages: the stages, the name of the file
+three_tenants() {
+    mkdir -p many
+    rm -f many/tenants
+    for tenant in a b c; do
+        python3 "$top/tools/make_records.py" 60000 "many/$tenant.pcap" "many/$tenant.toml" "$1" || exit 1
+        sed -e "s/name = \"a\"/name = \"$tenant\"/" -e '/^version/d' "many/$tenant.toml" >>many/tenants
+    done
+    { echo "version = 1"; cat many/tenants; } >"$2"
+}
+
+three_tenants "$stages" least.toml
+three_tenants full full.toml
+[ $((run * 10)) -le $((inline * 16)) ] || exit 1
 python3 - "$program" <<'END'
 import os
 import subprocess
@@ -53,18 +62,25 @@ import sys
 import time
 
 
-def seconds(words):
+def seconds(chains, words):
     best = None
-    for _ in range(3):
+    for _ in range(15):
         os.makedirs("out", exist_ok=True)
         start = time.monotonic()
-        subprocess.run([sys.argv[1], *words, "many.toml", "out"], check=True, stdout=subprocess.DEVNULL)
+        subprocess.run([sys.argv[1], *words, chains, "out"], check=True, stdout=subprocess.DEVNULL)
         took = time.monotonic() - start
         best = took if best is None else min(best, took)
     return best
 
 
-inline, run = seconds(["inline"]), seconds(["--workers", "4", "run"])
-print("three tenants of 60,000 records: inline %.3f s, four workers %.3f s, ratio %.2f" % (inline, run, run / inline))
+def ratio(chains, what):
+    inline = seconds(chains, ["inline"])
+    took = [seconds(chains, ["--workers", str(n), "run"]) for n in (1, 2, 3, 4)]
+    print("three tenants of 60,000 records, %s: inline %.3f s; 1 to 4 workers %s s; ratio with four %.2f"
+          % (what, inline, ", ".join("%.3f" % t for t in took), took[3] / inline))
+    return took[3] / inline
+
+
+ratio("least.toml", "ttl, only")
+sys.exit(0 if ratio("full.toml", "firewall of 256 rules, route of 64 rows") < 1 else 1)
 END
-[ $((run * 10)) -le $((inline * 16)) ]

@@ -1,7 +1,7 @@
 #!/bin/sh
 # Counts the instructions that mode `inline` takes for a segment that closes a gap in a stream, and so makes 4,000, 8,000 and 16,000 windows
-# in one step, which go through a stage behind them. Fails where twice as many windows take more than 2.2 times the instructions. Wants
-# valgrind and python3.
+# in one step, which go through a stage behind them. Fails where twice as many windows take more than 2.2 times the instructions. Then it
+# counts those of a segment of 1,460 bytes that comes in order and makes one window. Wants valgrind and python3.
 top=$(cd "$(dirname "$0")/.." && pwd) || exit 1
 for tool in valgrind python3; do
     if ! command -v $tool >/dev/null 2>&1; then
@@ -41,3 +41,17 @@ for windows in 4000 8000 16000; do
     fi
     before=$step
 done
+
+# the instructions of a run over so many segments that come in order
+in_order() {
+    python3 "$top/tools/make_stream.py" "$1" in.pcap c.toml || exit 1
+    valgrind --tool=callgrind --callgrind-out-file=/dev/null "$program" inline c.toml . 2>&1 >/dev/null | sed -n 's/.*Collected : //p'
+}
+
+none=$(in_order 0)
+some=$(in_order 10000)
+if [ -z "$none" ] || [ -z "$some" ]; then
+    echo "segments in order: no count" >&2
+    exit 1
+fi
+echo "a segment of 1,460 bytes in order: $(((some - none) / 10000)) instructions"
