@@ -3,7 +3,19 @@ use std::test::Fail;
 
 #[test]
 fn checksums_and_hashes(rt: HostRuntime) {
-    let sums: [(&[u8], u16); 3] = [(b"", 0xffff), (&[1], 0xfeff), (&[0xff, 0xff], 0)];
+    // the last two are the example of RFC 1071, section 3, and an IPv4 header with its checksum
+    let example = [0x00, 0x01, 0xf2, 0x03, 0xf4, 0xf5, 0xf6, 0xf7];
+    let header = [
+        0x45, 0x00, 0x00, 0x73, 0x00, 0x00, 0x40, 0x00, 0x40, 0x11, 0xb8, 0x61, 0xc0, 0xa8, 0x00,
+        0x01, 0xc0, 0xa8, 0x00, 0xc7,
+    ];
+    let sums: [(&[u8], u16); 5] = [
+        (b"", 0xffff),
+        (&[1], 0xfeff),
+        (&[0xff, 0xff], 0),
+        (&example, 0x220d),
+        (&header, 0),
+    ];
     for (bytes, want) in sums {
         assert_eq!(rt; checksum(bytes), want);
     }

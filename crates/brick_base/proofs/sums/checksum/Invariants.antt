@@ -1,13 +1,14 @@
-use Rattle.std.proofs.Common.{◌≡◌, ◌+◌, ◌-◌, ◌≤◌, length, drop}
+use Rattle.std.proofs.Common.{◌≡◌, ◌+◌, ◌*◌, ◌≤◌, length}
 use Rattle.brick_spec.specs.Checksum.{folded, sum_of_words}
 use Rattle.brick_base.proofs.sums.checksum.Given as goal
 
--- the sum so far and the words from here on make the whole sum
-abbrev pub invariant-words : goal.invariant-words
-invariant-words l = record {
-  within : l.at ≤ length l.bytes;
-  summed : folded (l.sum + sum_of_words (drop l.at l.bytes)) ≡ folded (sum_of_words l.bytes);
+-- the sum so far, with the bytes of each word exchanged, and the words that are left make the whole sum; it grows by
+-- less than 2 ^ 61 a byte
+abbrev pub invariant-eights : goal.invariant-eights
+invariant-eights l = record {
+  summed : folded (l.sum * 256 + sum_of_words l.left) ≡ folded (sum_of_words l.bytes);
+  room : l.sum + 2305843009213693952 * length l.left ≤ 2305843009213693952 * length l.bytes;
 }
 
-abbrev pub decreases-words : goal.decreases-words
-decreases-words l = length l.initial.bytes - l.at
+abbrev pub decreases-eights : goal.decreases-eights
+decreases-eights l = length l.left
