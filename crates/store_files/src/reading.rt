@@ -1,5 +1,5 @@
-ghost use Rattle.std.specs.Prelude.{◌≡◌, ◌<◌, ◌≤◌, ◌^◌, List, ℕ, Some, IfOk, IsErrOf, IsSomeAnd, IsTrue, length};
-ghost use Rattle.std.specs.Prelude.{vec_len};
+ghost use Rattle.std.specs.Prelude.{◌≡◌, ◌<◌, ◌≤◌, ◌^◌, ◌++◌, List, ℕ, Some, IfOk, OnOk, IsErrOf, IsSomeAnd, IsTrue};
+ghost use Rattle.std.specs.Prelude.{length, vec_len};
 ghost use Rattle.brick_spec.specs.Files.{IsReading, AllStay};
 ghost use Rattle.store_files.specs.declared.reading.ReadFault.TheVariants.{NoMemory};
 ghost use Rattle.store_files.specs.WholeFiles.{Causes};
@@ -10,6 +10,9 @@ use thiserror::Error;
 
 /// How many bytes are asked of the store at once.
 const CHUNK: usize = 65536;
+
+/// How many bytes are copied at once: few, so that the copy stays with vector registers.
+const STRIDE: usize = 1024;
 
 /// Why a file was not read.
 #[derive(Clone, Copy, Debug, PartialEq, Eq, Error)]
@@ -53,6 +56,19 @@ fn zeros(alloc: Global, len: usize) -> Result<Vec<u8>, AllocError>
     vec![in alloc; 0u8; len]
 }
 
+/// Puts bytes behind those that are there.
+fn put_behind(bytes: &mut Vec<u8>, more: &[u8]) -> Result<(), AllocError>
+    ensures { OnOk result (bytes.new.items ≡ bytes.old.items ++ more.now) }
+{
+    let mut rest = more;
+    while rest.len() > STRIDE {
+        let (front, after) = rest.split_at(STRIDE);
+        bytes.extend_from_slice(front)?;
+        rest = after;
+    }
+    bytes.extend_from_slice(rest)
+}
+
 /// Reads a file through a buffer. Each read that does not end the file gives at least one byte, so there are at most
 /// `limit + 1`.
 fn read_through<S: Store>(
@@ -80,7 +96,7 @@ fn read_through<S: Store>(
         if count == 0 {
             return Ok(bytes);
         }
-        bytes.extend_from_slice(&chunk[..count])?;
+        put_behind(&mut bytes, &chunk[..count])?;
     }
     Err(ReadFault::TooLong)
 }
