@@ -79,10 +79,6 @@ impl Returned {
         }
         let first = take_at(&mut self.buffers, self.front);
         self.front += 1;
-        if self.front == self.buffers.len() {
-            self.buffers.clear();
-            self.front = 0;
-        }
         first
     }
 }
