@@ -35,7 +35,7 @@ impl<N: Node> Node for Fan<N> {
         packet: Packet<Raw>,
         desk: &mut Desk,
     ) -> Result<(), NoMemory> {
-        let picked = self.groups.pick(packet.payload());
+        let picked = self.groups.pick(packet.frame());
         match picked {
             None => {
                 desk.drop_for(Reason::NoGroup, packet);
