@@ -55,6 +55,7 @@ fn count(counts: &mut [u32; 9], reason: Option<Reason>)
 
 impl Desk {
     /// Brings the buffer of a packet to rest.
+    #[inline]
     pub fn put_back(&mut self, packet: Packet<Raw>)
         requires { AreOut (buffer_of packet ∷ []) self.old.back self.old.out.spare }
         ensures recycled { Recycled (buffer_of packet

@@ -24,6 +24,7 @@ impl<A: Node, B: Node> Node for Either<A, B> {
 
     ghost serves = { either_serves A.serves B.serves };
 
+    #[inline(always)]
     fn take(
         &mut self,
         alloc: Global,

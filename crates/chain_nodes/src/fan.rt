@@ -28,6 +28,7 @@ impl<N: Node> Node for Fan<N> {
 
     ghost serves = { λ t count bytes free. FanServes N.serves t.groups t.places.items count bytes free };
 
+    #[inline(always)]
     fn take(
         &mut self,
         alloc: Global,

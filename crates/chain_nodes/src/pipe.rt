@@ -33,6 +33,7 @@ pub(crate) fn both(
 }
 
 /// Hands packets that wait to a place, in order.
+#[inline(never)]
 fn pass_on<N: Node>(
     alloc: Global,
     class: &Class,

@@ -35,6 +35,15 @@ fn take_at(buffers: &mut ArrayVec<Option<Buffer>, 32>, at: usize) -> Option<Buff
     buffers[at].take()
 }
 
+/// Gives up the places before `front`.
+#[inline(never)]
+fn close_up(buffers: &mut ArrayVec<Option<Buffer>, 32>, front: usize)
+    requires { front ≤ length buffers.old.items }
+    ensures { buffers.new.items ≡ drop front buffers.old.items }
+{
+    buffers.drain(..front);
+}
+
 /// Makes room for one more. Where there is none, the places before `front` are given up. The new front is returned.
 fn make_room(buffers: &mut ArrayVec<Option<Buffer>, 32>, front: usize) -> usize
     requires within { front ≤ length buffers.old.items }
@@ -46,7 +55,7 @@ fn make_room(buffers: &mut ArrayVec<Option<Buffer>, 32>, front: usize) -> usize
     if !buffers.is_full() {
         return front;
     }
-    buffers.drain(..front);
+    close_up(buffers, front);
     0
 }
 
@@ -62,6 +71,7 @@ impl Returned {
     }
 
     /// Adds a buffer at the end.
+    #[inline]
     pub fn push(&mut self, buffer: Buffer)
         requires { length self.old < 32 }
         ensures { self.new ≡ self.old ++ buffer ∷ [] }
