@@ -30,7 +30,7 @@ impl<P: Proto> Model for Packet<P> {
 
     ghost Value = { PacketModel };
 
-    ghost view = { λ p. packet_in p.block.value };
+    ghost view = { λ p. packet_in P.DEPTH p.block.value };
 
     ghost invariant = { λ p. IsSound P.DEPTH p.block.value };
 }
@@ -95,7 +95,6 @@ impl Packet<Raw> {
             fraction: entry.fraction,
             original: entry.original,
         };
-        block.places.clear();
         Packet {
             block,
             layer: PhantomData,
@@ -130,7 +129,6 @@ impl Packet<Raw> {
             fraction,
             original: len,
         };
-        block.places.clear();
         Packet {
             block,
             layer: PhantomData,
@@ -151,7 +149,6 @@ impl Packet<Raw> {
         } = self;
         block.len = len;
         block.meta.original = len;
-        block.places.clear();
         Packet {
             block,
             layer: PhantomData,
@@ -168,14 +165,14 @@ impl<P: Proto> Packet<P> {
         ensures value { place_view result ≡ here_of self.now }
         ensures within { IsWithin (place_view result) (length self.now.frame) }
     {
-        match self.block.places.last() {
-            None => Place {
+        if P::DEPTH == 0 {
+            return Place {
                 start: 0,
                 middle: 0,
                 end: self.block.len,
-            },
-            Some(place) => *place,
+            };
         }
+        self.block.places[P::DEPTH - 1]
     }
 
     /// The header of its layer: of a packet of which no layer was read, no bytes.
@@ -275,7 +272,7 @@ impl<P: Proto> Packet<P> {
             mut block,
             layer: _,
         } = self;
-        block.places.push(place);
+        block.places[P::DEPTH] = place;
         Packet {
             block,
             layer: PhantomData,
@@ -289,13 +286,8 @@ impl<P: Proto> Packet<P> {
         requires { P.DEPTH ≡ O.DEPTH + 1 }
         ensures { result ≡ deparsed self }
     {
-        let Packet {
-            mut block,
-            layer: _,
-        } = self;
-        let _innermost = block.places.pop();
         Packet {
-            block,
+            block: self.block,
             layer: PhantomData,
         }
     }
