@@ -1,6 +1,6 @@
 -- What the readers of a frame find.
-use Rattle.std.proofs.Common.{◌≡◌, ℕ, ◌+◌, ◌-◌, ◌<◌, ◌≤◌, ◌^◌, List, length, take, drop, Bool, true, false, Option, Some, None, if◌then◌else◌, is_some, min, nat_lt, nat_le, nat_eq, ◌||◌, refl, ap, sym, ◌∙◌, arith, length-take, length-take-le, length-drop}
-use Rattle.std.specs.Prelude.{option_map, option_and_then}
+use Rattle.std.proofs.Common.{◌≡◌, ℕ, ◌+◌, ◌-◌, ◌/◌, ◌%◌, ◌<◌, ◌≤◌, ◌^◌, List, length, take, drop, Bool, true, false, Option, Some, None, if◌then◌else◌, is_some, min, nat_lt, nat_le, nat_eq, ◌||◌, refl, ap, sym, ◌∙◌, arith, length-take, length-take-le, length-drop}
+use Rattle.std.specs.Prelude.{option_map, option_and_then, ◌&&◌, not}
 use Rattle.std.proofs.lemmas.Bool.{or_left, or_right, lt-ltb, le-ltb, eq-eqb, ne_eqb, leb-true}
 use Rattle.std.specs.Option.{option_or}
 use Rattle.std.proofs.lemmas.Bool.Decides.{nat_tests}
@@ -17,6 +17,10 @@ use Rattle.tcp_udp.proofs.Segments.{whole_payload, inner_word, tcp_at, tcp_there
 
 lt_same : (a b c d : ℕ) → c ≡ a + 14 → d ≡ 14 + b → nat_lt a b ≡ nat_lt c d
 lt_same a b c d e f = grind (arith, nat_tests)
+
+-- the flag above the fragment offset and the offset are 0 where the two together are
+pub whole_test : (word : ℕ) → nat_eq (word % 16384) 0 ≡ (nat_eq (word % 8192) 0 && not (nat_eq (word / 8192 % 2) 1))
+whole_test word = grind (arith, nat_tests)
 
 -- the datagram that is read in steps
 pub datagram_read : (frame outer rest : List ℕ) (s n end total : ℕ) → ethernet_length frame ≡ Some s → outer ≡ take s frame → rest ≡ drop s frame → ip4_length outer rest ≡ Some n

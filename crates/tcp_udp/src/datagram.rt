@@ -1,13 +1,11 @@
 //! The IPv4 datagram of a frame.
 
-ghost use Rattle.std.specs.Prelude.{◌≡◌, ℕ, ◌≤◌, length, MatchOption};
-ghost use Rattle.brick_spec.specs.Layer.{Layer, ip4_layer, carries};
+ghost use Rattle.std.specs.Prelude.{◌≡◌, ℕ, ◌≤◌, ◌&&◌, not, nat_eq, length, MatchOption};
+ghost use Rattle.brick_spec.specs.Layer.{Layer, ip4_layer, carries, fragment_offset, more_fragments};
 ghost use Rattle.tcp_udp.specs.Datagrams.{IsDatagram};
 
 use brick_base::Proto;
-use eth_ip::{
-    Eth, Ip4, header_fragment_offset, header_more_fragments, header_protocol, header_total,
-};
+use eth_ip::{Eth, Ip4, header_protocol, header_total, read_word};
 
 /// The IPv4 header of a frame and its payload.
 #[derive(Clone, Copy)]
@@ -39,8 +37,15 @@ pub(crate) fn read_datagram(frame: &[u8]) -> Option<Datagram<'_>>
 pub(crate) fn carries(header: &[u8], protocol: u8) -> bool
     ensures { result ≡ carries protocol header.now }
 {
-    header.len() >= 20
-        && header_protocol(header) == protocol
-        && header_fragment_offset(header) == 0
-        && !header_more_fragments(header)
+    header.len() >= 20 && header_protocol(header) == protocol && is_whole(header)
+}
+
+/// Whether the payload of an IPv4 header is a whole datagram's: the flag that further fragments follow, and the
+/// fragment offset below it, are the low 14 bits of one word (RFC 791, section 3.1).
+#[tactic(auto, using(crate::proofs::Reading::whole_test))]
+fn is_whole(header: &[u8]) -> bool
+    requires { 20 ≤ length header.now }
+    ensures { result ≡ (nat_eq (fragment_offset header.now) 0 && not (more_fragments header.now)) }
+{
+    read_word(header, 6) % 16384 == 0
 }

@@ -1,6 +1,6 @@
 //! The five-tuple of a frame.
 
-ghost use Rattle.std.specs.Prelude.{◌≡◌, ℕ, List, Option, Some, None, option_map};
+ghost use Rattle.std.specs.Prelude.{◌≡◌, ℕ, ◌≤◌, List, length, Option, Some, None, option_map};
 ghost use Rattle.brick_spec.specs.Layer.{Layer, header_in, payload_in};
 ghost use Rattle.brick_spec.specs.Tuple.{ports_at, transport_layer_in};
 
@@ -25,7 +25,7 @@ pub struct Tuple {
 }
 
 impl Tuple {
-    ghost use Rattle.brick_spec.specs.Tuple.{tuple_of};
+    ghost use Rattle.brick_spec.specs.Tuple.{tuple_in, tuple_of};
     ghost use Rattle.tcp_udp.specs.View.{tuple_view};
 
     /// The five-tuple of a frame: None exactly where it has no IPv4 layer.
@@ -33,13 +33,21 @@ impl Tuple {
         ensures { option_map tuple_view result ≡ tuple_of frame.now }
     {
         let datagram = read_datagram(frame)?;
-        let header = datagram.header;
-        Some(Tuple {
+        Some(Tuple::of_layer(datagram.header, datagram.payload))
+    }
+
+    /// The five-tuple of a frame, by the header of its IPv4 layer and the payload of that.
+    pub fn of_layer(header: &[u8], payload: &[u8]) -> Tuple
+        requires { 20 ≤ length header.now }
+        ensures { (frame : List ℕ) (l : Layer) → header.now ≡ header_in frame l → payload.now ≡ payload_in frame l
+            → tuple_view result ≡ tuple_in frame l }
+    {
+        Tuple {
             proto: header_protocol(header),
             src: header_source(header),
             dst: header_destination(header),
-            ports: read_ports(header, datagram.payload),
-        })
+            ports: read_ports(header, payload),
+        }
     }
 }
 
