@@ -1,11 +1,14 @@
 -- Packets that are closed again, after stages have treated them with their layers read.
-use Rattle.std.proofs.Common.{◌≡◌, ◌≤◌, List, [], ◌∷◌, drop, length, Ok, Err, Option, refl, ap, sym, subst, ◌∙◌, arith}
-use Rattle.std.specs.Prelude.{Result, ⊤}
-use Rattle.brick_spec.specs.Layer.{ip4_layer}
+use Rattle.std.proofs.Common.{◌≡◌, ℕ, ◌≤◌, List, [], ◌∷◌, drop, length, Ok, Err, Option, Some, refl, ap, sym, subst, ◌∙◌, arith}
+use Rattle.std.specs.Prelude.{Result, ⊤, option_map}
+use Rattle.brick_spec.specs.Layer.{Layer, header_in, payload_in, ip4_layer}
+use Rattle.brick_spec.specs.Tuple.{tuple_in, tuple_of}
+use Rattle.tcp_udp.specs.View.{tuple_view}
+use Rattle.tcp_udp.specs.declared.tuple.Tuple.{Tuple as Seen}
 use Rattle.brick_base.specs.declared.drops.Reason.{Reason}
 use Rattle.brick_base.specs.declared.flow.Class.{Class}
 use Rattle.eth_ip.proofs.FrameLayers.{ip4_layer_says}
-use Rattle.packet_owner.specs.Packet.{PacketModel, header_of}
+use Rattle.packet_owner.specs.Packet.{PacketModel, innermost, here_of, header_of, payload_of}
 use Rattle.batch_ops.specs.Treat.{Kind, Treated, Treats, RowTreats}
 use Rattle.read_row.specs.Datagram.{ReadsIp4}
 use Rattle.read_row.specs.Read.{IsRead, treated}
@@ -34,6 +37,14 @@ read_now p q h = record {
 
 pub long_header : (q : PacketModel) → IsRead q → 20 ≤ length (header_of q)
 long_header q is = let r = reads q is in subst (λ h. 20 ≤ length h) (sym (header_read (shut q) q r)) r.long
+
+-- the five-tuple by the layer that was read is that of the frame
+pub tuple_read : (q : PacketModel) (header payload : List ℕ) (t : Seen) → IsRead q → header ≡ header_of q → payload ≡ payload_of q
+    → ((frame : List ℕ) (l : Layer) → header ≡ header_in frame l → payload ≡ payload_in frame l → tuple_view t ≡ tuple_in frame l) → tuple_of q.frame ≡ Some (tuple_view t)
+tuple_read q header payload t is h p given =
+    let here : here_of q ≡ is.layer = ap (λ ls. innermost ls (length q.frame)) is.layers in
+    let made = given q.frame is.layer (h ∙ ap (header_in q.frame) here) (p ∙ ap (payload_in q.frame) here) in
+    ap (option_map (tuple_in q.frame)) is.is ∙ ap Some (sym made)
 
 -- what became of a packet, with its layers closed
 closed : Treated → Treated

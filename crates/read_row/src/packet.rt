@@ -1,10 +1,10 @@
 //! Packets of which the Ethernet layer and the IPv4 layer are read.
 
-ghost use Rattle.std.specs.Prelude.{◌≡◌, drop, None, IfOk, IfErr, option_map};
+ghost use Rattle.std.specs.Prelude.{◌≡◌, drop, Some, None, IfOk, IfErr, option_map};
 ghost use Rattle.brick_spec.specs.Layer.{ip4_layer};
 ghost use Rattle.brick_spec.specs.Tuple.{tuple_of};
 ghost use Rattle.read_row.specs.Datagram.{ReadsIp4};
-ghost use Rattle.read_row.specs.Read.{IsKept};
+ghost use Rattle.read_row.specs.Read.{IsKept, IsRead};
 ghost use Rattle.tcp_udp.specs.View.{tuple_view};
 
 use crate::datagram::{close_ip4, read_ip4};
@@ -58,5 +58,24 @@ impl ReadPacket {
             self.tuple = Tuple::read(self.packet.frame());
         }
         self.tuple
+    }
+
+    /// The five-tuple of its frame, by the layers that were read: it is made where it is not known yet, and is known
+    /// then.
+    #[tactic(auto, using(crate::proofs::Closing::long_header))]
+    pub fn five_tuple(&mut self) -> Tuple
+        requires { IsRead self.old.packet }
+        ensures value { tuple_of self.old.packet.frame ≡ Some (tuple_view result) }
+        ensures known { self.new.tuple ≡ Some result }
+        ensures packet { self.new.packet ≡ self.old.packet }
+    {
+        match self.tuple {
+            Some(tuple) => tuple,
+            None => {
+                let tuple = Tuple::of_layer(self.packet.header(), self.packet.payload());
+                self.tuple = Some(tuple);
+                tuple
+            }
+        }
     }
 }
