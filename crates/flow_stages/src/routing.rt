@@ -33,9 +33,7 @@ impl TreatRead for RouteStage {
         _class: &Class,
         packet: &mut ReadPacket,
     ) -> Result<(), Option<Reason>> {
-        let Some(tuple) = packet.tuple() else {
-            return Ok(());
-        };
+        let tuple = packet.five_tuple();
         let Some(row) = self.routes.find(tuple.dst) else {
             return Err(Some(Reason::NoRoute));
         };
