@@ -22,7 +22,7 @@ pub record Carries {W : Type 0} (ready : W → Type 0) (ended : W → Option ℕ
   pub open_work : ended t.work ≡ None
   pub works : broken t.work ≡ false
   pub waiting : AllByRecursion (λ (w : Work). IsOf room (work_buffer w)) t.batch
-  pub lying : AreOf room t.ready.items
+  pub lying : AreOf room t.ready
 
 -- the items came: the work stands for the first of them, and the packets of the others wait
 abbrev pub Waits : {W : Type 0} → (W → List ClassedItem → Type 0) → List ClassedItem → Turns W → Type 0

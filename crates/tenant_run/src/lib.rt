@@ -5,7 +5,6 @@
 //! `make_tenant` carries the promise: the tenant meaning, where no record is refused.
 #![tactic(auto)]
 
-mod keep;
 mod made;
 mod records;
 mod tally;

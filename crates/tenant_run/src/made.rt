@@ -14,7 +14,7 @@ use chain_types::Chain;
 use flow_key::Classifier;
 use pcap_io::Capture;
 use std::alloc::Global;
-use work_core::{NewWork, TenantDone, chains_own_keys, join_outputs};
+use work_core::{NewWork, Returned, TenantDone, chains_own_keys, join_outputs};
 
 /// A law of each work: it answers what the plan means.
 fn answers_mean<W: NewWork>()
@@ -35,7 +35,7 @@ pub fn make_tenant<W: NewWork>(
     let mut turns = Turns {
         work,
         batch: Batch::new(),
-        ready: Vec::new(alloc),
+        ready: Returned::new(),
     };
     let mut counts = Counts {
         accepted: 0,

@@ -6,13 +6,12 @@ ghost use Rattle.flow_spec.specs.Answer.{ClassedItem};
 ghost use Rattle.flow_spec.specs.Plan.{Plan};
 ghost use Rattle.tenant_run.specs.Turns.{AreOf, IsOf, Carries, Waits};
 
-use crate::keep::keep_back;
 use batch_ops::{Batch, Work};
 use brick_base::{Class, NoMemory};
 use packet_owner::{Buffer, Packet};
 use pcap_io::Entry;
 use std::alloc::Global;
-use work_core::ChainWork;
+use work_core::{ChainWork, Returned};
 
 /// The most packets of a batch.
 const MOST: usize = 32;
@@ -23,8 +22,8 @@ pub struct Turns<W: ChainWork> {
     pub work: W,
     /// The packets that wait.
     pub batch: Batch,
-    /// The buffers that lie ready.
-    pub ready: Vec<Buffer>,
+    /// The buffers that lie ready: those that the last turn gave back.
+    pub ready: Returned,
 }
 
 /// Hands the packets that wait to the work. Their buffers lie ready again.
@@ -38,8 +37,7 @@ pub fn take_turn<W: ChainWork>(alloc: Global, turns: &mut Turns<W>) -> Result<()
     ensures same { (p : Plan) → W.follows turns.old.work p → W.follows turns.new.work p }
 {
     let batch = std::mem::replace(&mut turns.batch, Batch::new());
-    let back = turns.work.turn(alloc, batch);
-    keep_back(back, &mut turns.ready)?;
+    turns.ready = turns.work.turn(alloc, batch);
     if turns.work.failed() {
         return Err(NoMemory);
     }
@@ -67,12 +65,12 @@ fn take_buffer(
     alloc: Global,
     slot: u32,
     bytes: u32,
-    ready: &mut Vec<Buffer>,
+    ready: &mut Returned,
 ) -> Result<Buffer, NoMemory>
     requires slot { slot < 1024 }
-    requires ready { AreOf bytes ready.old.items }
+    requires ready { AreOf bytes ready.old }
     ensures buffer { IfOk result (λ b. IsOf bytes b) }
-    ensures ready { AreOf bytes ready.new.items }
+    ensures ready { AreOf bytes ready.new }
 {
     match ready.pop() {
         Some(buffer) => Ok(buffer),

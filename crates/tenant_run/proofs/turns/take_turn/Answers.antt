@@ -2,18 +2,18 @@ use Rattle.std.proofs.Common.{◌≡◌, [], sym, subst, ◌∙◌}
 use Rattle.std.specs.List.{AllByRecursion}
 use Rattle.batch_ops.specs.declared.batch.Work.{Work}
 use Rattle.flow_work.specs.Buffers.{work_buffer}
-use Rattle.tenant_run.specs.Turns.{AreOf, IsOf}
-use Rattle.tenant_run.proofs.Turning.{all_both, buffers_of_works, shuffled_are}
+use Rattle.tenant_run.specs.Turns.{IsOf}
+use Rattle.tenant_run.proofs.Turning.{buffers_of_works, shuffled_are}
 use Rattle.tenant_run.proofs.turns.take_turn.Goals as goal
 
 pub returns-clause-carries : goal.returns-clause-carries
 returns-clause-carries g c = λ room carried.
     let none : c.replace-batch.new.dest ≡ [] = c.replace-batch.ensures.after ∙ c.new.ensures in
     record {
-      usable = c.turn-back.ensures.stays_ready;
-      open_work = c.turn-back.ensures.still ∙ carried.open_work;
+      usable = c.turn.ensures.stays_ready;
+      open_work = c.turn.ensures.still ∙ carried.open_work;
       works = sym c.failed.ensures ∙ c.if-failed.false;
       waiting = subst (AllByRecursion (λ (w : Work). IsOf room (work_buffer w))) (sym none) tt;
-      lying = subst (AreOf room) (sym c.in_ok-keep_back.ensures) (all_both (IsOf room) _ _ carried.lying (shuffled_are room _ _ c.turn-back.ensures.buffers
-          (buffers_of_works room _ (subst (AllByRecursion (λ (w : Work). IsOf room (work_buffer w))) (sym c.replace-batch.ensures.value) carried.waiting))));
+      lying = shuffled_are room _ _ c.turn.ensures.buffers
+          (buffers_of_works room _ (subst (AllByRecursion (λ (w : Work). IsOf room (work_buffer w))) (sym c.replace-batch.ensures.value) carried.waiting));
     }
