@@ -5,7 +5,7 @@ use Rattle.std.specs.declared.cmp.Ordering.{Ordering}
 use Rattle.std.specs.List.{position, slice_get}
 use Rattle.std.specs.BTreeMap.{BTreeMap, get}
 use Rattle.brick_spec.specs.FlowClass as spec
-use Rattle.brick_spec.specs.Flow.{Class}
+use Rattle.brick_spec.specs.Flow.{Class, Direction}
 use Rattle.brick_spec.specs.Tuple.{Tuple}
 use Rattle.flow_key.specs.declared.key.Key.{Key}
 use Rattle.flow_key.specs.declared.key.End.{End}
@@ -33,6 +33,10 @@ after_record c t = record {
 -- the class of that record
 abbrev pub class_of_record : ClassifierModel → Option Tuple → Class
 class_of_record c t = spec.class_in c.plan c.known.flows c.known.records t
+
+-- the class of a record of this flow, which goes in this direction
+abbrev pub class_found : List spec.Opened → ℕ × Direction → Class
+class_found flows found = record { flow = spec.flow_with found.0 (spec.flow_at flows found.0); dir = found.1 }
 
 abbrev pub end_cmp : End → End → Ordering
 end_cmp a b = ordering_then (nat_cmp a.address b.address) (nat_cmp a.port b.port)

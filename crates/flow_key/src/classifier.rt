@@ -16,7 +16,7 @@ use crate::ends::key_of;
 use crate::key::{Key, SLOTS, slot_of};
 use crate::opened::Opened;
 use crate::plan::NatPlan;
-use crate::search::{class_with, find, goes_out};
+use crate::search::{find, goes_out};
 use brick_base::{Class, Dir, NoMemory};
 use std::alloc::Global;
 use std::collections::BTreeMap;
@@ -31,7 +31,7 @@ pub struct Classifier {
     plan: Option<NatPlan>,
     flows: Vec<Opened>,
     keys: BTreeMap<Key, u32>,
-    // at each slot the flow that was opened last of those whose keys have it: most searches end there
+    // at each slot the flow that was opened last of those whose first frames have it: most searches end there
     recent: Vec<u32>,
     other: Option<u32>,
     // the flow at each rank
@@ -67,7 +67,8 @@ impl fmt::Debug for Classifier {
 }
 
 impl Classifier {
-    ghost use Rattle.flow_key.specs.Maps.{after_frames, after_record, class_of_record};
+    ghost use Rattle.brick_base.specs.Flow.{dir_view};
+    ghost use Rattle.flow_key.specs.Maps.{after_frames, after_record, class_of_record, class_found};
 
     /// A classifier to which no record came.
     pub fn new(alloc: Global, nat: Option<NatPlan>) -> Result<Classifier, NoMemory>
@@ -85,6 +86,7 @@ impl Classifier {
     }
 
     /// The class of the next record, by its frame and by the frames so far. Without memory nothing changes.
+    #[inline(always)]
     pub fn classify(&mut self, frame: &[u8]) -> Result<Class, NoMemory>
         requires { self.old.known.records < 2 ^ 32 }
         ensures class { (plan : Option spec.NatPlan) (frames : List (List ℕ)) → self.old ≡ after_frames plan frames
@@ -93,17 +95,21 @@ impl Classifier {
             → OnOk result (self.new ≡ after_frames plan (frames ++ frame.now ∷ [])) }
         ensures err { OnErr result (self.new ≡ self.old) }
     {
-        self.see(&Tuple::read(frame))
+        let (flow, dir) = self.find_or_open(&Tuple::read(frame))?;
+        Ok(self.flows[flow as usize].class_of(flow, dir))
     }
 
-    /// The class of the next record, by its five-tuple and by the flows that were opened.
-    fn see(&mut self, tuple: &Option<Tuple>) -> Result<Class, NoMemory>
+    /// The number of the next record's flow and the record's direction, by its five-tuple and by the flows so far.
+    /// Where none of these is its flow, it opens one.
+    fn find_or_open(&mut self, tuple: &Option<Tuple>) -> Result<(u32, Dir), NoMemory>
         requires { self.old.known.records < 2 ^ 32 }
-        ensures class { IfOk result (λ c. class_view c ≡ class_of_record self.old (option_map tuple_view tuple.now)) }
+        ensures class { IfOk result (λ found. class_found self.new.known.flows (found.0, dir_view found.1)
+            ≡ class_of_record self.old (option_map tuple_view tuple.now)) }
+        ensures within { IfOk result (λ found. found.0 < length self.new.known.flows) }
         ensures known { OnOk result (self.new ≡ after_record self.old (option_map tuple_view tuple.now)) }
         ensures err { OnErr result (self.new ≡ self.old) }
     {
-        match find(
+        let found = find(
             &self.plan,
             &self.flows,
             &self.keys,
@@ -111,20 +117,22 @@ impl Classifier {
             self.other,
             &self.ranks,
             tuple,
-        ) {
-            Some((flow, dir)) => {
+        );
+        match found {
+            Some(found) => {
                 self.records += 1;
-                Ok(class_with(flow, dir, self.flows[flow as usize]))
+                Ok(found)
             }
-            None => self.open(tuple),
+            None => Ok((self.open(tuple)?, Dir::Forward)),
         }
     }
 
-    /// The record opens a flow.
-    fn open(&mut self, tuple: &Option<Tuple>) -> Result<Class, NoMemory>
+    /// The record opens a flow, and this is its number. Without memory nothing changes.
+    #[cold]
+    fn open(&mut self, tuple: &Option<Tuple>) -> Result<u32, NoMemory>
         requires few { self.old.known.records < 2 ^ 32 }
         requires none { spec.found_in self.old.plan self.old.known.flows (option_map tuple_view tuple.now) ≡ None }
-        ensures class { IfOk result (λ c. class_view c ≡ class_of_record self.old (option_map tuple_view tuple.now)) }
+        ensures number { IfOk result (λ number. number ≡ length self.old.known.flows) }
         ensures known { OnOk result (self.new ≡ after_record self.old (option_map tuple_view tuple.now)) }
         ensures err { OnErr result (self.new ≡ self.old) }
     {
@@ -134,11 +142,11 @@ impl Classifier {
         let ranked = goes_out(&self.plan, tuple);
         put_key(&mut self.keys, &mut self.other, tuple, number)?;
         let rank = put_rank(&mut self.ranks, ranked, number);
-        let flow = Opened::by(tuple, rank, self.records as u32);
+        let flow = Opened::by(number, tuple, rank, self.records as u32);
         push_flow(&mut self.flows, flow);
         note_recent(&mut self.recent, tuple, number);
         self.records += 1;
-        Ok(class_with(number, Dir::Forward, flow))
+        Ok(number)
     }
 }
 
@@ -165,10 +173,10 @@ fn put_key(
     Ok(())
 }
 
-/// The flow of the slot of the tuple's key is this one.
+/// The flow of the five-tuple's slot is this one.
 fn note_recent(recent: &mut Vec<u32>, tuple: &Option<Tuple>, number: u32) {
     if let Some(tuple) = tuple {
-        let slot = slot_of(&key_of(tuple));
+        let slot = slot_of(tuple);
         if slot < recent.len() {
             recent[slot] = number;
         }

@@ -3,11 +3,12 @@
 ghost use Rattle.std.specs.Prelude.{◌≡◌, option_map};
 ghost use Rattle.brick_spec.specs.FlowClass as spec;
 ghost use Rattle.brick_spec.specs.Hash as fnv;
+ghost use Rattle.brick_base.specs.Flow.{ends_view};
 ghost use Rattle.tcp_udp.specs.View.{tuple_view};
 ghost use Rattle.flow_key.specs.View.{end_view, key_view};
 
 use crate::key::{End, Key};
-use brick_base::fnv1a;
+use brick_base::{Ends, fnv1a};
 use tcp_udp::Tuple;
 
 /// Where the frame comes from.
@@ -50,6 +51,26 @@ fn is_at_most(a: End, b: End) -> bool
     ensures { result ≡ spec.is_at_most (end_view a) (end_view b) }
 {
     a.address < b.address || a.address == b.address && a.port <= b.port
+}
+
+/// The ends of a flow, by its first frame.
+pub(crate) fn ends_of(first: &Option<Tuple>) -> Ends
+    ensures { ends_view result ≡ spec.ends_of (option_map tuple_view first.now) }
+{
+    match first {
+        Some(tuple) => Ends {
+            src: tuple.src,
+            sport: source_end(tuple).port,
+            dst: tuple.dst,
+            dport: destination_end(tuple).port,
+        },
+        None => Ends {
+            src: 0,
+            sport: 0,
+            dst: 0,
+            dport: 0,
+        },
+    }
 }
 
 /// The key of a frame.

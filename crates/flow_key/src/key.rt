@@ -1,4 +1,6 @@
-//! Keys of flows.
+//! Keys of flows, and the slots over which flows are spread.
+
+use tcp_udp::Tuple;
 
 /// An address and a port.
 #[derive(Clone, Copy, Debug, PartialEq, Eq, PartialOrd, Ord)]
@@ -15,14 +17,16 @@ pub(crate) struct Key {
     pub(crate) high: End,
 }
 
-/// How many slots keys are spread over.
+/// How many slots flows are spread over.
 pub(crate) const SLOTS: usize = 16384;
 
-/// The slot of a key, below `SLOTS`: the top bits of a product, as in Fibonacci hashing.
-pub(crate) fn slot_of(key: &Key) -> usize {
-    let low = (key.low.address as u64).wrapping_mul(0x9e37_79b9_7f4a_7c15);
-    let high = (key.high.address as u64).wrapping_mul(0xc2b2_ae3d_27d4_eb4f);
-    let ports = (key.low.port as u64) << 32 | (key.high.port as u64) << 8 | key.proto as u64;
-    let mixed = (low ^ high ^ ports).wrapping_mul(0x9e37_79b9_7f4a_7c15);
+/// The slot of a five-tuple, below `SLOTS`, which is also that of its reply: the products of the addresses and of the
+/// ports are the same in both directions. Fibonacci hashing takes the top bits.
+#[inline]
+pub(crate) fn slot_of(tuple: &Tuple) -> usize {
+    let (sport, dport) = tuple.ports.unwrap_or((0, 0));
+    let addresses = (tuple.src as u64).wrapping_mul(tuple.dst as u64);
+    let ports = (sport as u64).wrapping_mul(dport as u64);
+    let mixed = (addresses ^ ports).wrapping_mul(0x9e37_79b9_7f4a_7c15);
     (mixed >> 50) as usize
 }

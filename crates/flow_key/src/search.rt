@@ -1,14 +1,15 @@
 //! The searches of a classifier.
 
-ghost use Rattle.std.specs.Prelude.{◌≡◌, ◌<◌, ℕ, Option, Some, None, length, IfSome, true, map, option_map};
+ghost use Rattle.std.specs.Prelude.{◌≡◌, ◌<◌, ℕ, Option, Some, None, length, IfSome, IsSome, true, map};
+ghost use Rattle.std.specs.Prelude.{option_map};
 ghost use Rattle.std.specs.List.{position};
 ghost use Rattle.std.specs.BTreeMap.{get};
 ghost use Rattle.brick_spec.specs.FlowClass as spec;
-ghost use Rattle.brick_base.specs.Flow.{dir_view, ends_view, class_view};
+ghost use Rattle.brick_base.specs.Flow.{dir_view};
 ghost use Rattle.tcp_udp.specs.View.{tuple_view};
 ghost use Rattle.flow_key.specs.View.{plan_view, key_view};
 ghost use Rattle.flow_key.specs.OpenedView.{opened_view};
-ghost use Rattle.flow_key.specs.Found.{found_view};
+ghost use Rattle.flow_key.specs.Found.{found_view, found_by_key, reversed_tuple};
 ghost use Rattle.flow_key.specs.Maps.{AreRanks, AreFound, HaveOwnKeys, key_cmp};
 ghost use Rattle.flow_key.specs.declared.key.Key.{Key};
 
@@ -16,21 +17,21 @@ use crate::ends::{destination_end, is_same_end, key_of, source_end};
 use crate::key::{Key, slot_of};
 use crate::opened::Opened;
 use crate::plan::NatPlan;
-use brick_base::{Class, Dir, Ends};
+use brick_base::Dir;
 use std::collections::BTreeMap;
 use tcp_udp::Tuple;
 
 /// Whether the frame is a reply of the flow through the plan.
-fn is_reply(plan: &NatPlan, tuple: &Tuple, flow: Opened) -> bool
-    ensures { result ≡ spec.is_reply (plan_view plan.now) (tuple_view tuple.now) (opened_view flow) }
+fn is_reply(plan: &NatPlan, tuple: &Tuple, flow: &Opened) -> bool
+    ensures { result ≡ spec.is_reply (plan_view plan.now) (tuple_view tuple.now) (opened_view flow.now) }
 {
-    match (tuple.ports, flow.first, flow.rank) {
+    match (tuple.ports, &flow.first, flow.class.rank) {
         (Some((_, dport)), Some(first), Some(rank)) => {
             tuple.dst == plan.outside
                 && dport as u64 == plan.base as u64 + rank as u64
                 && rank < plan.ports
                 && first.proto == tuple.proto
-                && is_same_end(source_end(tuple), destination_end(&first))
+                && is_same_end(source_end(tuple), destination_end(first))
         }
         _ => false,
     }
@@ -59,7 +60,7 @@ fn reply_in(plan: &NatPlan, flows: &[Opened], ranks: &[u32], tuple: &Tuple) -> O
                 return None;
             }
             let number = ranks[rank as usize];
-            if is_reply(plan, tuple, flows[number as usize]) {
+            if is_reply(plan, tuple, &flows[number as usize]) {
                 Some(number)
             } else {
                 None
@@ -80,53 +81,117 @@ pub(crate) fn goes_out(plan: &Option<NatPlan>, tuple: &Option<Tuple>) -> bool
 }
 
 /// The direction of a frame in the flow of a first frame.
-fn direction(first: Option<Tuple>, tuple: &Option<Tuple>) -> Dir
-    ensures { dir_view result ≡ spec.direction_by (option_map tuple_view first) (option_map tuple_view tuple.now) }
+fn direction(first: &Option<Tuple>, tuple: &Tuple) -> Dir
+    ensures { dir_view result ≡ spec.direction_by (option_map tuple_view first.now) (Some (tuple_view tuple.now)) }
 {
-    match (first, tuple) {
-        (Some(first), Some(tuple)) => {
-            if is_same_end(source_end(tuple), source_end(&first)) {
-                Dir::Forward
-            } else {
-                Dir::Reversed
-            }
-        }
+    match first {
+        Some(first) if !is_same_end(source_end(tuple), source_end(first)) => Dir::Reversed,
         _ => Dir::Forward,
     }
 }
 
-/// The ends of a flow, by its first frame.
-fn ends_of(first: Option<Tuple>) -> Ends
-    ensures { ends_view result ≡ spec.ends_of (option_map tuple_view first) }
+/// The five-tuple of a frame that goes the other way.
+#[inline]
+fn reversed(tuple: &Tuple) -> Tuple
+    ensures { tuple_view result ≡ reversed_tuple (tuple_view tuple.now) }
 {
-    match first {
-        Some(tuple) => Ends {
-            src: tuple.src,
-            sport: source_end(&tuple).port,
-            dst: tuple.dst,
-            dport: destination_end(&tuple).port,
-        },
-        None => Ends {
-            src: 0,
-            sport: 0,
-            dst: 0,
-            dport: 0,
-        },
+    let ports = match tuple.ports {
+        Some((sport, dport)) => Some((dport, sport)),
+        None => None,
+    };
+    Tuple {
+        proto: tuple.proto,
+        src: tuple.dst,
+        dst: tuple.src,
+        ports,
     }
 }
 
-/// The class of a record of this flow.
-pub(crate) fn class_with(number: u32, dir: Dir, flow: Opened) -> Class
-    ensures { class_view result ≡ record { flow = spec.flow_with number (opened_view flow); dir = dir_view dir } }
+/// The direction of a frame whose five-tuple is that of a flow's first frame, or that one the other way.
+#[inline]
+fn direction_between(first: &Tuple, tuple: &Tuple) -> Option<Dir>
+    ensures key { IsSome result → spec.key_of (tuple_view first.now) ≡ spec.key_of (tuple_view tuple.now) }
+    ensures dir { IfSome result (λ dir. dir_view dir
+        ≡ spec.direction_by (Some (tuple_view first.now)) (Some (tuple_view tuple.now))) }
 {
-    Class {
-        flow: number,
-        opened: flow.opened,
-        dir,
-        rank: flow.rank,
-        hash: flow.hash,
-        first: ends_of(flow.first),
-        other: flow.first.is_none(),
+    if *tuple == *first {
+        Some(Dir::Forward)
+    } else if *tuple == reversed(first) {
+        Some(Dir::Reversed)
+    } else {
+        None
+    }
+}
+
+/// The flow of which the frame is a reply, where there is a plan.
+fn reply_of(
+    plan: &Option<NatPlan>,
+    flows: &[Opened],
+    ranks: &[u32],
+    tuple: &Option<Tuple>,
+) -> Option<u32>
+    requires { AreRanks (map opened_view flows.now) ranks.now }
+    ensures reply { result
+        ≡ spec.reply_of (option_map plan_view plan.now) (map opened_view flows.now) (option_map tuple_view tuple.now) }
+    ensures within { IfSome result (λ number. number < length flows.now) }
+{
+    match (plan, tuple) {
+        (Some(plan), Some(tuple)) => reply_in(plan, flows, ranks, tuple),
+        _ => None,
+    }
+}
+
+/// The flow that was opened last of those with the slot of the frame, where that has the frame's key, and the frame's
+/// direction.
+fn find_recent(flows: &[Opened], recent: &[u32], tuple: &Tuple) -> Option<(u32, Dir)>
+    requires { HaveOwnKeys (map opened_view flows.now) }
+    ensures found { IsSome result
+        → found_view result ≡ found_by_key (map opened_view flows.now) (Some (tuple_view tuple.now)) }
+    ensures within { IfSome result (λ found. found.0 < length flows.now) }
+{
+    let number = *recent.get(slot_of(tuple))?;
+    let flow = flows.get(number as usize)?;
+    let first = flow.first.as_ref()?;
+    let dir = direction_between(first, tuple)?;
+    Some((number, dir))
+}
+
+/// The flow of the frame's key, by the map, and the frame's direction.
+#[inline(never)]
+fn find_in_map(flows: &[Opened], keys: &BTreeMap<Key, u32>, tuple: &Tuple) -> Option<(u32, Dir)>
+    requires { (k : Key)
+        → get key_cmp keys.now k ≡ position (spec.has_key (key_view k)) (map opened_view flows.now) }
+    ensures found { found_view result
+        ≡ found_by_key (map opened_view flows.now) (Some (tuple_view tuple.now)) }
+    ensures within { IfSome result (λ found. found.0 < length flows.now) }
+{
+    let number = *keys.get(&key_of(tuple))?;
+    let dir = direction(&flows[number as usize].first, tuple);
+    Some((number, dir))
+}
+
+/// The earlier flow of the frame's key, and the frame's direction.
+fn find_by_key(
+    flows: &[Opened],
+    keys: &BTreeMap<Key, u32>,
+    recent: &[u32],
+    other: Option<u32>,
+    tuple: &Option<Tuple>,
+) -> Option<(u32, Dir)>
+    requires key { (k : Key)
+        → get key_cmp keys.now k ≡ position (spec.has_key (key_view k)) (map opened_view flows.now) }
+    requires own { HaveOwnKeys (map opened_view flows.now) }
+    requires other { other ≡ position spec.is_other_flow (map opened_view flows.now) }
+    ensures found { found_view result
+        ≡ found_by_key (map opened_view flows.now) (option_map tuple_view tuple.now) }
+    ensures within { IfSome result (λ found. found.0 < length flows.now) }
+{
+    let Some(tuple) = tuple else {
+        return Some((other?, Dir::Forward));
+    };
+    match find_recent(flows, recent, tuple) {
+        Some(found) => Some(found),
+        None => find_in_map(flows, keys, tuple),
     }
 }
 
@@ -145,91 +210,8 @@ pub(crate) fn find(
         ≡ spec.found_in (option_map plan_view plan.now) (map opened_view flows.now) (option_map tuple_view tuple.now) }
     ensures within { IfSome result (λ found. found.0 < length flows.now) }
 {
-    if let Some(number) = reply_of(plan, flows, ranks, tuple) {
-        return Some((number, Dir::Reversed));
-    }
-    match same_key_of(flows, keys, recent, other, tuple) {
-        Some(number) => Some((number, direction(flows[number as usize].first, tuple))),
-        None => None,
-    }
-}
-
-fn reply_of(
-    plan: &Option<NatPlan>,
-    flows: &[Opened],
-    ranks: &[u32],
-    tuple: &Option<Tuple>,
-) -> Option<u32>
-    requires { AreRanks (map opened_view flows.now) ranks.now }
-    ensures reply { result
-        ≡ spec.reply_of (option_map plan_view plan.now) (map opened_view flows.now) (option_map tuple_view tuple.now) }
-    ensures within { IfSome result (λ number. number < length flows.now) }
-{
-    match (plan, tuple) {
-        (Some(plan), Some(tuple)) => reply_in(plan, flows, ranks, tuple),
-        _ => None,
-    }
-}
-
-/// Whether a flow of this first frame has the key.
-fn has_key(key: &Key, first: &Option<Tuple>) -> bool
-    ensures { result ≡ spec.has_first_key (key_view key.now) (option_map tuple_view first.now) }
-{
-    match first {
-        Some(first) => {
-            let own = key_of(first);
-            own.proto == key.proto
-                && is_same_end(own.low, key.low)
-                && is_same_end(own.high, key.high)
-        }
-        None => false,
-    }
-}
-
-/// The flow of the key, where it was opened last of those with the key's slot.
-fn recent_of(flows: &[Opened], recent: &[u32], key: &Key) -> Option<u32>
-    requires { HaveOwnKeys (map opened_view flows.now) }
-    ensures same { IfSome result (λ number. Some number
-        ≡ position (spec.has_key (key_view key.now)) (map opened_view flows.now)) }
-    ensures within { IfSome result (λ number. number < length flows.now) }
-{
-    let slot = slot_of(key);
-    if slot >= recent.len() {
-        return None;
-    }
-    let number = recent[slot];
-    if number as usize >= flows.len() {
-        return None;
-    }
-    if has_key(key, &flows[number as usize].first) {
-        Some(number)
-    } else {
-        None
-    }
-}
-
-fn same_key_of(
-    flows: &[Opened],
-    keys: &BTreeMap<Key, u32>,
-    recent: &[u32],
-    other: Option<u32>,
-    tuple: &Option<Tuple>,
-) -> Option<u32>
-    requires key { (k : Key)
-        → get key_cmp keys.now k ≡ position (spec.has_key (key_view k)) (map opened_view flows.now) }
-    requires own { HaveOwnKeys (map opened_view flows.now) }
-    requires other { other ≡ position spec.is_other_flow (map opened_view flows.now) }
-    ensures same { result ≡ spec.same_key_of (map opened_view flows.now) (option_map tuple_view tuple.now) }
-    ensures within { IfSome result (λ number. number < length flows.now) }
-{
-    match tuple {
-        Some(tuple) => {
-            let key = key_of(tuple);
-            match recent_of(flows, recent, &key) {
-                Some(number) => Some(number),
-                None => keys.get(&key).copied(),
-            }
-        }
-        None => other,
+    match reply_of(plan, flows, ranks, tuple) {
+        Some(number) => Some((number, Dir::Reversed)),
+        None => find_by_key(flows, keys, recent, other, tuple),
     }
 }
