@@ -247,11 +247,11 @@ impl<P: Proto> Packet<P> {
         ensures absent { OnErr result (Q.length_of (header_of self) (payload_of self) ≡ None) }
     {
         let here = self.here();
-        match Q::length(self.header(), self.payload()) {
+        let rest = self.payload();
+        match Q::length(self.header(), rest) {
             None => Err(self),
             Some(n) => {
-                let room = (here.end - here.middle) as usize;
-                let extent = Q::extent(&self.payload()[..n], room);
+                let extent = Q::extent(&rest[..n], rest.len());
                 let place = Place {
                     start: here.middle,
                     middle: here.middle + n as u32,

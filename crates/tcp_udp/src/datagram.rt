@@ -35,9 +35,10 @@ pub(crate) fn read_datagram(frame: &[u8]) -> Option<Datagram<'_>>
 
 /// Whether an IPv4 header is of this protocol and its payload is a whole datagram's, no fragment.
 pub(crate) fn carries(header: &[u8], protocol: u8) -> bool
+    requires { 20 ≤ length header.now }
     ensures { result ≡ carries protocol header.now }
 {
-    header.len() >= 20 && header_protocol(header) == protocol && is_whole(header)
+    header_protocol(header) == protocol && is_whole(header)
 }
 
 /// Whether the payload of an IPv4 header is a whole datagram's: the flag that further fragments follow, and the

@@ -1,5 +1,6 @@
 //! TCP (RFC 793, section 3.1).
 
+ghost use Rattle.std.specs.Prelude.{◌≡◌, ◌≤◌, length};
 ghost use Rattle.std.proofs.Common.{rules};
 ghost use Rattle.brick_spec.specs.Layer.{tcp_length, tcp_extent};
 ghost use Rattle.tcp_udp.specs.LayerLaws.{tcp_length_fits, tcp_length-take};
@@ -29,15 +30,10 @@ impl Proto for Tcp {
     const LEAST: usize = 20;
 
     fn length(outer: &[u8], rest: &[u8]) -> Option<usize> {
-        if !carries(outer, 6) || rest.len() < 20 {
+        if outer.len() < 20 {
             return None;
         }
-        let length = rest[12] as usize / 16 * 4;
-        if 20 <= length && length <= rest.len() {
-            Some(length)
-        } else {
-            None
-        }
+        tcp_length(outer, rest)
     }
 
     fn extent(_header: &[u8], room: usize) -> usize {
@@ -51,4 +47,20 @@ impl Proto for Tcp {
     ghost extent_fits = { λ _ _ fits. (fits, Prim.search rules) };
 
     ghost depth_fits = { Prim.search rules };
+}
+
+/// The length of the TCP header, by a whole IPv4 header and its payload.
+pub(crate) fn tcp_length(outer: &[u8], rest: &[u8]) -> Option<usize>
+    requires { 20 ≤ length outer.now }
+    ensures { result ≡ tcp_length outer.now rest.now }
+{
+    if !carries(outer, 6) || rest.len() < 20 {
+        return None;
+    }
+    let length = rest[12] as usize / 16 * 4;
+    if 20 <= length && length <= rest.len() {
+        Some(length)
+    } else {
+        None
+    }
 }

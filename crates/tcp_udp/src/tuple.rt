@@ -6,9 +6,8 @@ ghost use Rattle.brick_spec.specs.Tuple.{ports_at, transport_layer_in};
 
 use crate::datagram::read_datagram;
 use crate::ports::{destination_port, source_port};
-use crate::tcp::Tcp;
-use crate::udp::Udp;
-use brick_base::Proto;
+use crate::tcp::tcp_length;
+use crate::udp::udp_length;
 use eth_ip::{header_destination, header_protocol, header_source};
 
 /// What a frame with an IPv4 layer says of its ends.
@@ -53,10 +52,11 @@ impl Tuple {
 
 /// The ports, by the IPv4 header and its payload.
 fn read_ports(header: &[u8], payload: &[u8]) -> Option<(u16, u16)>
+    requires { 20 ≤ length header.now }
     ensures { (frame : List ℕ) (l : Layer) → header.now ≡ header_in frame l → payload.now ≡ payload_in frame l
         → result ≡ option_map (ports_at frame) (transport_layer_in frame l) }
 {
-    if Tcp::length(header, payload).is_some() || Udp::length(header, payload).is_some() {
+    if tcp_length(header, payload).is_some() || udp_length(header, payload).is_some() {
         Some((source_port(payload), destination_port(payload)))
     } else {
         None

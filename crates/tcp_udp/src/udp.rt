@@ -1,5 +1,6 @@
 //! UDP (RFC 768).
 
+ghost use Rattle.std.specs.Prelude.{◌≡◌, ◌≤◌, length};
 ghost use Rattle.std.proofs.Common.{rules};
 ghost use Rattle.brick_spec.specs.Layer.{udp_length, udp_extent};
 ghost use Rattle.tcp_udp.specs.LayerLaws.{udp_length_fits, udp_length-take, udp_extent_fits};
@@ -29,14 +30,10 @@ impl Proto for Udp {
     const LEAST: usize = 8;
 
     fn length(outer: &[u8], rest: &[u8]) -> Option<usize> {
-        if !carries(outer, 17) || rest.len() < 8 {
+        if outer.len() < 20 {
             return None;
         }
-        if read_word(rest, 4) >= 8 {
-            Some(8)
-        } else {
-            None
-        }
+        udp_length(outer, rest)
     }
 
     fn extent(header: &[u8], room: usize) -> usize {
@@ -55,4 +52,19 @@ impl Proto for Udp {
     ghost extent_fits = { udp_extent_fits };
 
     ghost depth_fits = { Prim.search rules };
+}
+
+/// The length of the UDP header, by a whole IPv4 header and its payload.
+pub(crate) fn udp_length(outer: &[u8], rest: &[u8]) -> Option<usize>
+    requires { 20 ≤ length outer.now }
+    ensures { result ≡ udp_length outer.now rest.now }
+{
+    if !carries(outer, 17) || rest.len() < 8 {
+        return None;
+    }
+    if read_word(rest, 4) >= 8 {
+        Some(8)
+    } else {
+        None
+    }
 }
