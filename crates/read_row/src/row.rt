@@ -11,13 +11,13 @@ use packet_owner::Packet;
 
 /// Lets each stage treat what the one before let go on.
 fn read_in_turn<S: TreatRead>(
-    stages: &mut Vec<S>,
+    stages: &mut [S],
     class: &Class,
     packet: &mut ReadPacket,
 ) -> Result<(), Option<Reason>>
     requires { IsRead packet.old.packet }
     ensures read { IsRead packet.new.packet }
-    ensures treats { RowTreats S.kind stages.old.items stages.new.items class.now packet.old.packet
+    ensures treats { RowTreats S.kind stages.old stages.new class.now packet.old.packet
         (treated result packet.new.packet) }
 {
     for at in 0..stages.len() {
@@ -31,12 +31,12 @@ fn read_in_turn<S: TreatRead>(
 
 /// The same of a packet that has no IPv4 layer.
 fn other_in_turn<S: TreatRead>(
-    stages: &mut Vec<S>,
+    stages: &mut [S],
     class: &Class,
     packet: &Packet<Raw>,
 ) -> Result<(), Option<Reason>>
     requires { ip4_layer packet.now.frame ≡ None }
-    ensures { RowTreats S.kind stages.old.items stages.new.items class.now packet.now (treated result packet.now) }
+    ensures { RowTreats S.kind stages.old stages.new class.now packet.now (treated result packet.now) }
 {
     for at in 0..stages.len() {
         match stages[at].treat_other(class, packet) {
@@ -49,11 +49,11 @@ fn other_in_turn<S: TreatRead>(
 
 /// Lets stages treat a packet, whose headers are read once.
 fn treat_in_turn<S: TreatRead>(
-    stages: &mut Vec<S>,
+    stages: &mut [S],
     class: &Class,
     packet: Packet<Raw>,
 ) -> Result<Packet<Raw>, Dropped>
-    ensures { RowTreats S.kind stages.old.items stages.new.items class.now packet result }
+    ensures { RowTreats S.kind stages.old stages.new class.now packet result }
 {
     match ReadPacket::read(packet) {
         Ok(mut read) => {
@@ -64,16 +64,6 @@ fn treat_in_turn<S: TreatRead>(
             let outcome = other_in_turn(stages, class, &packet);
             settle(outcome, packet)
         }
-    }
-}
-
-/// Whether the packet was lost to want of memory.
-fn is_lost(treated: &Result<Packet<Raw>, Dropped>) -> bool
-    ensures { result ≡ was_lost treated.now }
-{
-    match treated {
-        Ok(_) => false,
-        Err(dropped) => dropped.reason.is_none(),
     }
 }
 
@@ -116,9 +106,13 @@ impl<S: TreatRead> ReadRow<S> {
         if self.stages.is_empty() {
             return Ok(packet);
         }
-        let treated = treat_in_turn(&mut self.stages, class, packet);
-        self.failed = is_lost(&treated);
-        treated
+        match treat_in_turn(&mut self.stages, class, packet) {
+            Ok(packet) => Ok(packet),
+            Err(dropped) => {
+                self.failed = dropped.reason.is_none();
+                Err(dropped)
+            }
+        }
     }
 }
 

@@ -6,5 +6,5 @@ use Rattle.read_row.proofs.row.read_in_turn.Given as goal
 abbrev pub invariant-loop-at : goal.invariant-loop-at
 invariant-loop-at g l = record {
   read : IsRead l.packet.packet;
-  so_far : SoFar g.S.TreatRead.kind l.fn.stages.items l.stages.items l.class l.fn.packet.packet l.packet.packet l.at;
+  so_far : SoFar g.S.TreatRead.kind l.fn.stages l.stages l.class l.fn.packet.packet l.packet.packet l.at;
 }
