@@ -1,10 +1,11 @@
-use Rattle.std.proofs.Common.{◌≡◌, ◌∙◌, ◌/◌, ◌+◌, ℕ, refl, sym, ap, [], ◌∷◌, None, arith}
+use Rattle.std.proofs.Common.{◌≡◌, ◌∙◌, ◌/◌, ◌+◌, ℕ, List, refl, sym, ap, subst, [], ◌∷◌, None, arith}
 use Rattle.brick_spec.specs.Layer.{tcp_layer}
 use Rattle.brick_base.specs.Flow.{flow_of}
 use Rattle.packet_owner.proofs.Raw.{raw_payload}
 use Rattle.batch_ops.specs.Operator.{work_item}
 use Rattle.batch_ops.specs.Outlet.{keyed}
 use Rattle.batch_ops.proofs.ThenCalls.{failed_steps}
+use Rattle.window_stage.specs.Fields.{HasFields}
 use Rattle.window_stage.specs.StageMeaning.{window_meaning}
 use Rattle.window_stage.specs.Emission.{only_passed}
 use Rattle.window_stage.proofs.Stepping.{moves_own, moves_as}
@@ -26,6 +27,10 @@ returns-in_default c =
     stage_steps s s class p c.args.out.now c.pass.new.self (only_passed (record { dir = class.dir; packet = p } ∷ [])) refl refl c.if-self.false
     (moves_own (window_meaning.spares s) p c.args.out.now c.pass.new.self _ refl c.pass.ensures.grows c.pass.ensures.spare) (λ _. tt) (λ other came left differs was. was)
     (without_goes s.size s.reach s.flows (flow_of class) (work_item class p) without) refl c.if-self.false
+
+pub step-requires-clause-fields : goal.step-requires-clause-fields
+step-requires-clause-fields c =
+    subst (λ (frame : List ℕ). HasFields frame c.in-Some.fields) (c.payload.ensures.value ∙ raw_payload c.args.p c.payload.ensures.layers) c.in-Some.ensures
 
 pub returns-in-Ok : goal.returns-in-Ok
 returns-in-Ok c =
