@@ -112,8 +112,12 @@ impl<S: TreatRead, W: Staged> Direct for Path<S, Option<Then<W, ReadRow<S>>>> {
                 packet,
             });
         }
-        let treated = self.before.treat(class, packet);
-        self.failed = self.before.failed;
-        treated
+        match self.before.treat(class, packet) {
+            Ok(packet) => Ok(packet),
+            Err(dropped) => {
+                self.failed = self.before.failed;
+                Err(dropped)
+            }
+        }
     }
 }
