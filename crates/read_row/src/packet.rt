@@ -1,6 +1,6 @@
 //! Packets of which the Ethernet layer and the IPv4 layer are read.
 
-ghost use Rattle.std.specs.Prelude.{◌≡◌, drop, Some, None, IfOk, IfErr, option_map};
+ghost use Rattle.std.specs.Prelude.{◌≡◌, drop, Some, None, IfOk, IfErr};
 ghost use Rattle.brick_spec.specs.Layer.{ip4_layer};
 ghost use Rattle.brick_spec.specs.Tuple.{tuple_of};
 ghost use Rattle.read_row.specs.Datagram.{ReadsIp4};
@@ -46,18 +46,6 @@ impl ReadPacket {
         ensures { result ≡ record self.packet { layers = drop 2 self.packet.layers } }
     {
         close_ip4(self.packet)
-    }
-
-    /// The five-tuple of its frame, which is read where it is not known yet, and is known then.
-    pub fn tuple(&mut self) -> Option<Tuple>
-        ensures value { option_map tuple_view result ≡ tuple_of self.old.packet.frame }
-        ensures known { self.new.tuple ≡ result }
-        ensures packet { self.new.packet ≡ self.old.packet }
-    {
-        if self.tuple.is_none() {
-            self.tuple = Tuple::read(self.packet.frame());
-        }
-        self.tuple
     }
 
     /// The five-tuple of its frame, by the layers that were read: it is made where it is not known yet, and is known
