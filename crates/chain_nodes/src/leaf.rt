@@ -38,7 +38,7 @@ impl Node for LeafList {
 
     ghost serves = { λ l count bytes free. Unit {0} };
 
-    #[inline]
+    #[inline(always)]
     fn take(
         &mut self,
         _alloc: Global,

@@ -38,6 +38,7 @@ impl<P: StagesPath> Node for GroupPlace<P> {
 
     ghost serves = { group_serves P.Operator.meaning };
 
+    #[inline(always)]
     fn take(
         &mut self,
         alloc: Global,
@@ -89,6 +90,7 @@ impl<P: StagesPath> Node for RootPlace<P> {
 
     ghost serves = { root_serves P.Operator.meaning };
 
+    #[inline(always)]
     fn take(
         &mut self,
         alloc: Global,

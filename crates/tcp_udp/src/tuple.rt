@@ -28,6 +28,7 @@ impl Tuple {
     ghost use Rattle.tcp_udp.specs.View.{tuple_view};
 
     /// The five-tuple of a frame: None exactly where it has no IPv4 layer.
+    #[inline]
     pub fn read(frame: &[u8]) -> Option<Tuple>
         ensures { option_map tuple_view result ≡ tuple_of frame.now }
     {
