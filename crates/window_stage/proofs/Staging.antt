@@ -1,8 +1,6 @@
 -- What one packet, or the end of a flow, does to the stage.
 use Rattle.std.proofs.Common.{◌≡◌, ◌≢◌, ℕ, ◌+◌, ◌/◌, ◌<◌, ◌≤◌, Bool, true, false, List, [], ◌∷◌, ◌++◌, Option, Some, None, Ok, Err, refl, sym, subst, ◌∙◌, arith, append-nil}
 use Rattle.std.specs.List.{AllByRecursion, list_any}
-use Rattle.std.specs.Ordering.{nat_cmp}
-use Rattle.std.specs.BTreeMap.{get}
 use Rattle.std.proofs.Math.Nat.{le-div_iff_mul-le}
 use Rattle.brick_spec.specs.Flow.{Flow, Direction, Forward, Reversed}
 use Rattle.brick_spec.specs.FlowStage.{FlowItem, FlowInput, FlowOutput, both, left_by}
@@ -20,6 +18,7 @@ use Rattle.flow_spec.specs.Window.{last_template, window_told, window_rest, wind
 use Rattle.window_stage.specs.Emission.{Emitted, only_passed}
 use Rattle.window_stage.specs.FlowHalves.{rests_in}
 use Rattle.window_stage.specs.Flows.{NoSegments, FitsAt, FlowsFit, FlowsStepped, OthersKept}
+use Rattle.window_stage.specs.Kept.{kept_at}
 use Rattle.window_stage.specs.StageState.{WindowStands}
 use Rattle.window_stage.specs.StageMeaning.{window_meaning}
 use Rattle.window_stage.specs.declared.flow_halves.FlowHalves.{FlowHalves}
@@ -106,7 +105,7 @@ pub without_goes : (size reach : ℕ) (flows : Flows) (flow : Flow) (x : FlowIte
     → WindowStands size reach flows flow (with_more came (x ∷ []) None) (both left (left_by x (Ok x.item)))
 without_goes size reach flows flow x without came left still (was, fits) = (
   told_on size reach flow x _ came left (told_without size reach came.items x without) still was,
-  fits_without flows.reach (get nat_cmp flows.halves flow.number) came.items x without fits,
+  fits_without flows.reach (kept_at flows.halves.items flow.number) came.items x without fits,
 )
 
 -- one with it
@@ -121,7 +120,7 @@ flows_go class p old new out out' size reach same steps came left still (was, fi
 pub flows_others : (size reach : ℕ) (old new : Flows) (flow : Flow) → OthersKept old new flow.number → new.reach ≡ old.reach
     → (f : Flow) (came : FlowInput) (left : FlowOutput) → f.number ≢ flow.number → WindowStands size reach old f came left → WindowStands size reach new f came left
 flows_others size reach old new flow kept same f came left apart (was, fits) =
-    (was, subst (λ (n : ℕ). FitsAt n (get nat_cmp new.halves f.number) came.items) (sym same) (subst (λ (o : Option FlowHalves). FitsAt old.reach o came.items) (sym (kept f.number apart)) fits))
+    (was, subst (λ (n : ℕ). FitsAt n (kept_at new.halves.items f.number) came.items) (sym same) (subst (λ (o : Option FlowHalves). FitsAt old.reach o came.items) (sym (kept f.number apart)) fits))
 
 -- nothing came
 pub fits_at_first : (reach : ℕ) (o : Option FlowHalves) → o ≡ None → FitsAt reach o []

@@ -2,8 +2,6 @@
 use Rattle.std.specs.Prelude.{ℕ, ◌≡◌, ◌≢◌, ◌+◌, ◌/◌, List, [], ◌∷◌, ◌++◌, Option, Some, None, false, Result, OnOk}
 use Rattle.std.specs.Prelude.{OnErr, ⊤}
 use Rattle.std.specs.List.{AllByRecursion, list_any}
-use Rattle.std.specs.Ordering.{nat_cmp}
-use Rattle.std.specs.BTreeMap.{get}
 use Rattle.brick_spec.specs.Flow.{Direction, Forward, Reversed}
 use Rattle.brick_spec.specs.FlowStage.{FlowItem}
 use Rattle.brick_base.specs.declared.flow.Dir.{Dir}
@@ -15,6 +13,7 @@ use Rattle.flow_spec.specs.FlowStream.{segments_of}
 use Rattle.flow_spec.specs.Window.{last_template, window_told}
 use Rattle.window_stage.specs.Own.{item_in}
 use Rattle.window_stage.specs.FlowHalves.{FlowHalvesFit}
+use Rattle.window_stage.specs.Kept.{kept_at}
 use Rattle.window_stage.specs.declared.flow_halves.FlowHalves.{FlowHalves}
 use Rattle.window_stage.specs.declared.flows.Flows.{Flows}
 
@@ -29,11 +28,11 @@ FitsAt reach (Some h) items = FlowHalvesFit h items
 
 -- at a flow
 abbrev pub FlowsFit : Flows → ℕ → List FlowItem → Type 0
-FlowsFit flows flow items = FitsAt flows.reach (get nat_cmp flows.halves flow) items
+FlowsFit flows flow items = FitsAt flows.reach (kept_at flows.halves.items flow) items
 
 -- nothing changed at another flow
 abbrev pub OthersKept : Flows → Flows → ℕ → Type 0
-OthersKept old new flow = (q : ℕ) → q ≢ flow → get nat_cmp new.halves q ≡ get nat_cmp old.halves q
+OthersKept old new flow = (q : ℕ) → q ≢ flow → kept_at new.halves.items q ≡ kept_at old.halves.items q
 
 abbrev pub IsSameSize : Flows → Flows → Type 0
 IsSameSize old new = (new.size ≡ old.size) × (new.reach ≡ old.reach)

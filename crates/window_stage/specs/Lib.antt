@@ -3,6 +3,7 @@ pub mod Emission
 pub mod Own
 pub mod HalfFlow
 pub mod FlowHalves
+pub mod Kept
 pub mod Flows
 pub mod StageState
 pub mod StageMeaning

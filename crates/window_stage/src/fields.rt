@@ -4,7 +4,7 @@ ghost use Rattle.std.specs.Prelude.{◌≡◌, ◌≤◌, length, slice_range, N
 ghost use Rattle.brick_spec.specs.Layer.{tcp_layer};
 ghost use Rattle.window_stage.specs.Fields.{HasFields};
 
-use tcp_udp::{Transport, read_places, tcp_flags, tcp_sequence};
+use tcp_udp::{Places, Transport, read_places, tcp_flags, tcp_sequence};
 
 /// What is read of a TCP segment in a frame.
 #[derive(Clone, Copy, Debug, PartialEq, Eq)]
@@ -15,10 +15,8 @@ pub(crate) struct SegmentFields {
     pub(crate) syn: bool,
     /// It has SYN, FIN or RST.
     pub(crate) marked: bool,
-    /// Where its payload starts in the frame.
-    pub(crate) start: usize,
-    /// Where its payload ends.
-    pub(crate) end: usize,
+    /// Where its headers and its payload stand in the frame.
+    pub(crate) places: Places,
 }
 
 /// What is read of the TCP segment in a frame: none exactly where it has no TCP layer.
@@ -35,8 +33,7 @@ pub(crate) fn read_fields(frame: &[u8]) -> Option<SegmentFields>
                 seq: tcp_sequence(header),
                 syn: flags / 2 % 2 == 1,
                 marked: flags % 8 != 0,
-                start: places.payload,
-                end: places.end,
+                places,
             })
         }
     }

@@ -1,6 +1,14 @@
 //! One direction of a flow.
 
-ghost use Rattle.std.specs.Prelude.{ℕ, ◌≡◌, ◌*◌, ◌/◌, ◌≤◌};
+ghost use Rattle.std.specs.Prelude.{ℕ, ◌≡◌, ◌+◌, ◌-◌, ◌*◌, ◌/◌, ◌<◌, ◌≤◌, ◌^◌, List, length, max, Some, IsSome};
+ghost use Rattle.std.specs.Prelude.{vec_len, vec_capacity};
+ghost use Rattle.brick_spec.specs.Stream.{StreamSegment, reassembly};
+ghost use Rattle.brick_base.specs.Flow.{dir_view};
+ghost use Rattle.packetize.specs.View.{template_view};
+ghost use Rattle.packetize.specs.declared.templates.Template.{Template};
+ghost use Rattle.window_stream.specs.StreamModel.{StandsFor};
+ghost use Rattle.flow_spec.specs.Window.{windows_from};
+ghost use Rattle.window_stage.specs.Emission.{Emitted};
 
 use crate::emission::{emit_rest, emit_windows};
 use crate::fields::SegmentFields;
@@ -11,6 +19,47 @@ use packet_owner::Packet;
 use packetize::Template;
 use std::alloc::Global;
 use window_stream::{Segment, Stream, Taken};
+
+/// Passes the windows of a stream from the one at `from` up to that before `to`, under this template, in spare buffers,
+/// and lets go of them.
+#[inline(never)]
+fn pass_windows(
+    stream: &mut Stream,
+    size: u32,
+    last: &Option<Template>,
+    dir: Dir,
+    a: u64,
+    from: u64,
+    to: u64,
+    out: &mut Outlet,
+)
+    requires size { size ≡ stream.old.size }
+    requires data { (64 ≤ size) × (size ≤ 1460) }
+    requires order { from ≤ to }
+    requires few { to - from < 2 ^ 32 }
+    requires fits { stream.old.ready < 2 ^ 64 }
+    requires whole { to * size ≤ stream.old.ready }
+    requires there { stream.old.dropped ≤ from * size }
+    requires room { vec_len out.old.passed + (to - from) ≤ vec_capacity out.old.passed }
+    requires spare { to - from ≤ length out.old.spare.free }
+    requires long { 54 + size ≤ out.old.spare.bytes }
+    requires last { IsSome last.now }
+    ensures passed { (m : Template) → last.now ≡ Some m → Emitted (to - from) 1
+        (λ xs. (segments : List StreamSegment) → StandsFor stream.old segments →
+        xs ≡ windows_from size (reassembly stream.old.reach segments) (dir_view dir)
+        (template_view m) a 1 from (to - from)) out.old out.new }
+    ensures dropped { stream.new.dropped ≡ max stream.old.dropped (to * size) }
+    ensures same { (stream.new.size ≡ stream.old.size) × (stream.new.reach ≡ stream.old.reach)
+        × (stream.new.ready ≡ stream.old.ready) }
+    ensures segments { (segments : List StreamSegment) → StandsFor stream.old segments →
+        StandsFor stream.new segments }
+{
+    let Some(template) = last else {
+        return;
+    };
+    emit_windows(stream, size, template, dir, a, from, to, out);
+    stream.drop_before(to * u64::from(size));
+}
 
 /// What is kept of one direction of a flow: its stream, of which each window was emitted as soon as it was whole, and
 /// the template of the last packet that counted.
@@ -70,7 +119,7 @@ impl HalfFlow {
         match self.stream.take(Segment {
             seq: fields.seq,
             syn: fields.syn,
-            bytes: &p.payload()[fields.start..fields.end],
+            bytes: &p.payload()[fields.places.payload..fields.places.end],
         }) {
             Err(NoMemory) => {
                 out.lose(p);
@@ -85,13 +134,23 @@ impl HalfFlow {
                 Ok(())
             }
             Ok(Taken::Counted) => {
-                let template = Template::of(&p);
+                self.last = Some(Template::at(&p, &fields.places));
                 let (a, _) = p.key();
                 leave_own(dir, fields, p, out);
                 let to = self.stream.ready() / size;
-                emit_windows(&self.stream, self.size, &template, dir, a, from, to, out);
-                self.stream.drop_before(to * size);
-                self.last = Some(template);
+                if from == to {
+                    return Ok(());
+                }
+                pass_windows(
+                    &mut self.stream,
+                    self.size,
+                    &self.last,
+                    dir,
+                    a,
+                    from,
+                    to,
+                    out,
+                );
                 Ok(())
             }
         }
