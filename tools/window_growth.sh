@@ -1,7 +1,7 @@
 #!/bin/sh
 # Counts the instructions that mode `inline` takes for a segment that closes a gap in a stream, and so makes 4,000, 8,000 and 16,000 windows
 # in one step, which go through a stage behind them. Fails where twice as many windows take more than 2.2 times the instructions. Then it
-# counts those of a segment of 1,460 bytes that comes in order and makes one window. Wants valgrind and python3.
+# counts those of a segment that comes in order, of 10 bytes and of 1,460, which make a window. Wants valgrind and python3.
 top=$(cd "$(dirname "$0")/.." && pwd) || exit 1
 for tool in valgrind python3; do
     if ! command -v $tool >/dev/null 2>&1; then
@@ -42,16 +42,18 @@ for windows in 4000 8000 16000; do
     before=$step
 done
 
-# the instructions of a run over so many segments that come in order
+# the instructions of a run over so many segments of so many bytes that come in order
 in_order() {
-    python3 "$top/tools/make_stream.py" "$1" in.pcap c.toml || exit 1
+    python3 "$top/tools/make_stream.py" "$1" in.pcap c.toml "$2" || exit 1
     valgrind --tool=callgrind --callgrind-out-file=/dev/null "$program" inline c.toml . 2>&1 >/dev/null | sed -n 's/.*Collected : //p'
 }
 
-none=$(in_order 0)
-some=$(in_order 10000)
-if [ -z "$none" ] || [ -z "$some" ]; then
-    echo "segments in order: no count" >&2
-    exit 1
-fi
-echo "a segment of 1,460 bytes in order: $(((some - none) / 10000)) instructions"
+for bytes in 10 1460; do
+    none=$(in_order 0 $bytes)
+    some=$(in_order 10000 $bytes)
+    if [ -z "$none" ] || [ -z "$some" ]; then
+        echo "segments in order: no count" >&2
+        exit 1
+    fi
+    echo "a segment of $bytes bytes in order: $(((some - none) / 10000)) instructions"
+done
