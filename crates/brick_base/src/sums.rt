@@ -1,6 +1,6 @@
 //! The Internet checksum.
 
-ghost use Rattle.std.specs.Prelude.{◌≡◌, ◌+◌, ◌*◌, ◌<◌, length};
+ghost use Rattle.std.specs.Prelude.{◌≡◌, ◌+◌, ◌*◌, ◌<◌, ◌≤◌, ◌^◌, length};
 ghost use Rattle.brick_spec.specs.Checksum.{folded, sum_of_words, checksum_of, adjusted};
 
 /// The sum of two words, its carry added at the low end.
@@ -65,17 +65,52 @@ fn sum_under_eight(bytes: &[u8]) -> u64
     }
 }
 
+/// The sum with the first eight bytes added, and the bytes behind them.
+fn add_eight(sum: u128, bytes: &[u8]) -> (u128, &[u8])
+    requires long { 8 ≤ length bytes.now }
+    requires room { sum < 2 ^ 126 }
+    ensures summed { folded (result.0 * 256 + sum_of_words result.1.now)
+        ≡ folded (sum * 256 + sum_of_words bytes.now) }
+    ensures most { result.0 ≤ sum + 18446744073709551616 }
+    ensures behind { length result.1.now + 8 ≡ length bytes.now }
+{
+    match bytes.split_first_chunk::<8>() {
+        Some((eight, rest)) => (sum + u64::from_le_bytes(*eight) as u128, rest),
+        None => unreachable!(),
+    }
+}
+
+/// The sum with the first 32 bytes added, and the bytes behind them.
+fn add_block(sum: u128, bytes: &[u8]) -> (u128, &[u8])
+    requires long { 32 ≤ length bytes.now }
+    requires room { sum < 2 ^ 125 }
+    ensures summed { folded (result.0 * 256 + sum_of_words result.1.now)
+        ≡ folded (sum * 256 + sum_of_words bytes.now) }
+    ensures most { result.0 ≤ sum + 73786976294838206464 }
+    ensures behind { length result.1.now + 32 ≡ length bytes.now }
+{
+    let (sum, rest) = add_eight(sum, bytes);
+    let (sum, rest) = add_eight(sum, rest);
+    let (sum, rest) = add_eight(sum, rest);
+    add_eight(sum, rest)
+}
+
 /// The Internet checksum (RFC 1071, section 1) of the bytes: words are big-endian, and an odd last byte is the high
 /// half of one.
 ///
-/// It adds eight bytes at a time and folds once, at the end: a sum of longer words folds to the same (RFC 1071,
-/// section 2 (C)). They are added as little-endian numbers, so the bytes of the folded sum are exchanged (section
-/// 2 (B)). The wide sum has room for any slice.
+/// It adds eight bytes at a time, four times in a turn of the loop, and folds once, at the end: a sum of longer words
+/// folds to the same (RFC 1071, section 2 (C)). They are added as little-endian numbers, so the bytes of the folded
+/// sum are exchanged (section 2 (B)). The wide sum has room for any slice.
 pub fn checksum(bytes: &[u8]) -> u16
     ensures { result ≡ checksum_of bytes.now }
 {
     let mut sum = 0u128;
     let mut left = bytes;
+    'wide: while left.len() >= 32 {
+        let (more, rest) = add_block(sum, left);
+        sum = more;
+        left = rest;
+    }
     'eights: while let Some((eight, rest)) = left.split_first_chunk::<8>() {
         sum += u64::from_le_bytes(*eight) as u128;
         left = rest;

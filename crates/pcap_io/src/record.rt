@@ -45,8 +45,23 @@ pub fn record_size(order: Order, bytes: &[u8]) -> Result<usize, Stuck>
 }
 
 /// The whole record at the front.
-#[tactic(auto, using(crate::proofs::Places::fields_at))]
+#[inline]
 pub fn record_at_front(order: Order, bytes: &[u8]) -> Entry<'_>
+    requires { IsRecord (order_view order) bytes.now }
+    ensures entry { entry_view result ≡ front_entry (order_view order) bytes.now }
+    ensures short { length result.frame.now ≤ 262144 }
+{
+    // The byte order is looked at once for all four numbers.
+    match order {
+        Order::Little => entry_at_front(Order::Little, bytes),
+        Order::Big => entry_at_front(Order::Big, bytes),
+    }
+}
+
+/// The same, where the byte order is a constant.
+#[tactic(auto, using(crate::proofs::Places::fields_at))]
+#[inline(always)]
+fn entry_at_front(order: Order, bytes: &[u8]) -> Entry<'_>
     requires { IsRecord (order_view order) bytes.now }
     ensures entry { entry_view result ≡ front_entry (order_view order) bytes.now }
     ensures short { length result.frame.now ≤ 262144 }

@@ -1,4 +1,3 @@
 mod ChainKeys
 mod Places
 mod Shares
-mod Viewed

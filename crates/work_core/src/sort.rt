@@ -9,6 +9,5 @@ use pcap_io::Item;
 pub fn sort_items(list: &mut Vec<Item>) -> Result<(), NoMemory>
     ensures { OnOk result (map item_view list.new.items ≡ in_key_order (map item_view list.old.items)) }
 {
-    list.sort_by_key(|item| (item.a, item.j))?;
-    Ok(())
+    group_merge::sort_items(list)
 }
