@@ -6,11 +6,14 @@ ghost use Rattle.pcap_io.specs.View.{entry_view, order_view, record_fault_of, St
 
 use crate::header::{Form, HEADER, read_header};
 use crate::number::Order;
-use crate::record::{Stuck, record_at_front, record_size};
+use crate::record::{HEAD, Stuck, record_at_front, record_size};
 use crate::{CaptureFault, Entry};
 use std::alloc::Global;
 use std::fmt;
 use std::marker::Model;
+
+/// The least length of an Ethernet frame without its check sequence (IEEE 802.3). A capture may have shorter ones.
+const SHORTEST_FRAME: usize = 60;
 
 /// The fault of a record of a number, counted from 0, whose first byte has this place behind the file header.
 fn record_fault(number: usize, at: usize, stuck: Stuck) -> CaptureFault
@@ -30,7 +33,8 @@ fn record_fault(number: usize, at: usize, stuck: Stuck) -> CaptureFault
     }
 }
 
-/// The places of the records behind a file header, where there are whole records and nothing more.
+/// The places of the records behind a file header, where there are whole records and nothing more. There is room from
+/// the start for the places of the shortest Ethernet frames, so that the list seldom grows.
 fn places_of(alloc: Global, order: Order, records: &[u8]) -> Result<Vec<usize>, CaptureFault>
     requires { length records.now ≤ 33554432 }
     ensures text { IfOk result (λ places. records.now
@@ -39,7 +43,7 @@ fn places_of(alloc: Global, order: Order, records: &[u8]) -> Result<Vec<usize>, 
     ensures places { IfOk result (λ places. ArePlaces (order_view order) records.now places.items) }
     ensures fault { IfErr result (StandsInRecords (order_view order) records.now) }
 {
-    let mut places = Vec::new(alloc);
+    let mut places = Vec::with_capacity(alloc, records.len() / (HEAD + SHORTEST_FRAME))?;
     let mut at = 0;
     while at < records.len() {
         let (_, rest) = records.split_at(at);

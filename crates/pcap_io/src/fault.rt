@@ -1,7 +1,7 @@
 ghost use Rattle.std.specs.Prelude.{◌≡◌};
 ghost use Rattle.pcap_io.specs.declared.fault.CaptureFault.TheVariants.{NoMemory};
 
-use std::alloc::AllocFailed;
+use std::alloc::{AllocError, AllocFailed};
 use thiserror::Error;
 
 /// Why bytes are not read as a capture: the first check that fails, in the order of the variants and then of the
@@ -29,6 +29,14 @@ pub enum CaptureFault {
     /// Memory ran out.
     #[error("out of memory")]
     NoMemory,
+}
+
+impl From<AllocError> for CaptureFault {
+    ghost from_gives = { λ _ e. e ≡ NoMemory };
+
+    fn from(_error: AllocError) -> CaptureFault {
+        CaptureFault::NoMemory
+    }
 }
 
 impl<T: Drop> From<AllocFailed<T>> for CaptureFault {
