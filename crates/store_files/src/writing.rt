@@ -81,7 +81,6 @@ fn give_piece<S: Store>(
 }
 
 /// Puts bytes behind those that wait, piece by piece: the store is given what waits as often as it is a whole piece.
-#[inline(never)]
 fn put_pieces<S: Store>(
     store: &mut S,
     account: u32,
@@ -111,13 +110,14 @@ fn put_pieces<S: Store>(
     Ok(())
 }
 
-/// Puts bytes behind those that wait, and gives the store what waits as often as it is a whole piece.
-fn put<S: Store>(
+/// Puts an item's record behind what waits, piece by piece. This is seldom needed, and stays out of the loop.
+#[inline(never)]
+fn put_item_pieces<S: Store>(
     store: &mut S,
     account: u32,
     name: &str,
     waiting: &mut Vec<u8>,
-    bytes: &[u8],
+    item: &Item,
 ) -> Result<(), IoFault>
     requires account { IsWriting account }
     requires room { length waiting.old.items < 1048576 }
@@ -125,19 +125,20 @@ fn put<S: Store>(
     ensures room { OnOk result (length waiting.new.items < 1048576) }
     ensures ok { IsTrue S.tells
         → OnOk result (Puts name.now (waiting.old.items
-        ++ bytes.now) waiting.new.items (S.file store.old) (S.file store.new)) }
+        ++ record_text Little (entry_of (item_view item.now))) waiting.new.items (S.file store.old)
+        (S.file store.new)) }
     ensures grows { IsTrue S.tells
-        → Grows name.now (waiting.old.items ++ bytes.now) (S.file store.old) (S.file store.new) }
+        → Grows name.now (waiting.old.items
+        ++ record_text Little (entry_of (item_view item.now))) (S.file store.old) (S.file store.new) }
     ensures cause { Causes account name.now (S.faults store.old) (S.faults store.new) (IsErrOf result IoFault.Failed) }
 {
-    if bytes.len() < PIECE - waiting.len() {
-        waiting.extend_from_slice(bytes)?;
-        return Ok(());
-    }
-    put_pieces(store, account, name, waiting, bytes)
+    let head = record_head(item);
+    put_pieces(store, account, name, waiting, head.as_slice())?;
+    put_pieces(store, account, name, waiting, item.frame.as_slice())?;
+    Ok(())
 }
 
-/// Puts an item's record behind what waits.
+/// Puts an item's record behind what waits. One look tells whether the whole record leaves the piece unfilled.
 fn put_item<S: Store>(
     store: &mut S,
     account: u32,
@@ -159,9 +160,13 @@ fn put_item<S: Store>(
     ensures cause { Causes account name.now (S.faults store.old) (S.faults store.new) (IsErrOf result IoFault.Failed) }
 {
     let head = record_head(item);
-    put(store, account, name, waiting, head.as_slice())?;
-    put(store, account, name, waiting, item.frame.as_slice())?;
-    Ok(())
+    let frame = item.frame.as_slice();
+    if head.len() + frame.len() < PIECE - waiting.len() {
+        waiting.extend_from_slice(head.as_slice())?;
+        waiting.extend_from_slice(frame)?;
+        return Ok(());
+    }
+    put_item_pieces(store, account, name, waiting, item)
 }
 
 /// Gives the store what is left, where there is any.
