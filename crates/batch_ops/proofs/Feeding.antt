@@ -11,7 +11,7 @@ use Rattle.brick_base.specs.declared.memory.NoMemory.{NoMemory}
 use Rattle.packet_owner.specs.Packet.{packet_item}
 use Rattle.batch_ops.specs.declared.outlet.Outlet.{Outlet}
 use Rattle.batch_ops.specs.declared.outlet.Passed.{Passed}
-use Rattle.batch_ops.specs.Outlet.{Added, KeyedBuffer, Moves, HasRoom, HasOtherKey, both_added, is_lost, passed_item, passed_keyed, keyed}
+use Rattle.batch_ops.specs.Outlet.{Added, KeyedBuffer, HasRoom, HasOtherKey, both_added, is_lost, passed_item, passed_keyed, keyed}
 use Rattle.batch_ops.specs.Operator.{Meaning, Stepped, Fed, IsLost, work_item}
 pub use Rattle.batch_ops.proofs.Calls.{joined}
 use Rattle.batch_ops.proofs.Calls.{did_nothing, moves_none, moves_both, did_both, did_as, how_many, left_none, right_none, some_of_first, some_of_second}

@@ -1,9 +1,9 @@
 -- An operator that may be there.
-use Rattle.std.proofs.Common.{◌≡◌, ℕ, List, [], ◌∷◌, ◌++◌, false, Option, Some, None, Result, Ok, refl, ap, sym, subst, ◌∙◌, append-nil, lit≤}
+use Rattle.std.proofs.Common.{◌≡◌, ℕ, List, [], ◌∷◌, ◌++◌, Option, Some, None, Result, Ok, refl, ap, sym, subst, ◌∙◌, append-nil, lit≤}
 use Rattle.std.proofs.lemmas.List.Sorted.{IsPermutation-refl}
 use Rattle.std.specs.Prelude.{⊤}
 use Rattle.brick_spec.specs.Flow.{Flow}
-use Rattle.brick_spec.specs.FlowStage.{FlowItem, FlowInput, FlowOutput, nothing}
+use Rattle.brick_spec.specs.FlowStage.{FlowItem}
 use Rattle.brick_base.specs.Flow.{flow_of}
 use Rattle.brick_base.specs.declared.flow.Class.{Class}
 use Rattle.brick_base.specs.declared.memory.NoMemory.{NoMemory}

@@ -1,8 +1,7 @@
 -- What was treated, put into an outlet.
-use Rattle.std.proofs.Common.{◌≡◌, ℕ, List, [], ◌∷◌, map, Bool, true, false, Ok, Err, Some, None, Option, Result, IsErr, OnOk, OnErr, ◌||◌, refl, ap, sym, subst, ◌∙◌, arith}
+use Rattle.std.proofs.Common.{◌≡◌, [], ◌∷◌, map, Bool, true, false, Ok, Err, Some, None, Option, Result, OnOk, OnErr, ◌||◌, refl, ap, sym, subst, ◌∙◌, arith}
 use Rattle.std.specs.Prelude.{⊤, is_err}
 use Rattle.std.specs.List.{list_any}
-use Rattle.std.specs.List.Sorted.{IsPermutation}
 use Rattle.brick_spec.specs.Flow.{Flow}
 use Rattle.brick_spec.specs.FlowStage.{FlowInput, FlowOutput}
 use Rattle.brick_base.specs.Flow.{flow_of}
@@ -13,8 +12,7 @@ use Rattle.brick_base.specs.declared.memory.NoMemory.{NoMemory}
 use Rattle.packet_owner.specs.Packet.{PacketModel}
 use Rattle.packet_owner.specs.Spare.{SpareModel}
 use Rattle.batch_ops.specs.declared.outlet.Outlet.{Outlet}
-use Rattle.batch_ops.specs.declared.outlet.Dropped.{Dropped}
-use Rattle.batch_ops.specs.Outlet.{KeyedBuffer, Grows, Takes, packets, keyed, is_lost, left_in, only_lost}
+use Rattle.batch_ops.specs.Outlet.{KeyedBuffer, Grows, Takes, packets, keyed, is_lost, left_in}
 use Rattle.batch_ops.specs.Operator.{Meaning, Extends, OthersStay, IsLost, Stepped, may_fail, work_item}
 use Rattle.batch_ops.specs.Treat.{Treated, treated_packet, was_lost, added_by}
 use Rattle.batch_ops.proofs.Calls.{takes_none, same_order}

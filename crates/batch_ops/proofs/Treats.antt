@@ -1,8 +1,7 @@
 -- Stages that make at most one packet of a packet, and rows of them.
-use Rattle.std.proofs.Common.{◌≡◌, ◌≢◌, ℕ, suc, ◌+◌, ◌<◌, List, [], ◌∷◌, ◌++◌, map, length, take, drop, get_or, Bool, true, false, Ok, Err, Some, None, Result, refl, ap, sym, subst, ◌∙◌, arith, add-one, append-nil, append_assoc, take-append-drop}
+use Rattle.std.proofs.Common.{◌≡◌, ℕ, suc, ◌+◌, ◌<◌, List, [], ◌∷◌, ◌++◌, map, length, take, drop, get_or, false, Ok, Err, Some, None, Result, refl, ap, sym, subst, ◌∙◌, arith, append-nil, append_assoc, take-append-drop}
 use Rattle.std.specs.Prelude.{⊤, is_err}
 use Rattle.std.specs.List.{slice_set}
-use Rattle.std.specs.List.Sorted.{IsPermutation}
 use Rattle.std.proofs.lemmas.List.{take_more_set, drop-set-lt, drop-drop, length-set}
 use Rattle.std.proofs.Math.Seq.{drop-cons, drop-length}
 use Rattle.brick_spec.specs.Flow.{Flow}

@@ -15,7 +15,7 @@ use crate::{Node, NodeWork};
 use batch_ops::Batch;
 use brick_base::NoMemory;
 use std::alloc::Global;
-use work_core::WorkResult;
+use work_core::{Returned, WorkResult};
 
 /// Takes the turns of these batches.
 fn take_turns<N: Node>(alloc: Global, work: NodeWork<N>, batches: Vec<Batch>) -> NodeWork<N>
@@ -25,8 +25,10 @@ fn take_turns<N: Node>(alloc: Global, work: NodeWork<N>, batches: Vec<Batch>) ->
     ensures { HasTurned N.stands N.makes N.results N.serves work result (all_of batches.items) }
 {
     let mut work = work;
+    let mut back = Returned::new();
     for batch in batches {
-        let _back = work.turn(alloc, batch);
+        let mut batch = batch;
+        work.turn(alloc, &mut batch, &mut back);
     }
     work
 }

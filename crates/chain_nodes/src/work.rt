@@ -13,7 +13,6 @@ use batch_ops::{Batch, Outlet, Work};
 use brick_base::{Class, NoMemory};
 use packet_owner::Spare;
 use std::alloc::Global;
-use std::mem::replace;
 use work_core::{Returned, WorkResult};
 
 /// A tenant's chain at work, with all that came of its flows.
@@ -74,20 +73,20 @@ impl<N: Node> NodeWork<N> {
         self.failed = both(noted, taken).is_err();
     }
 
-    /// Takes the packets of a batch through the chain, and gives their buffers back. A work that ran out of memory has
-    /// failed, and from then on gives all buffers back unread.
-    pub fn turn(&mut self, alloc: Global, batch: Batch) -> Returned
+    /// Takes the packets of a batch through the chain, and gives their buffers back in place of those that stood there.
+    /// A work that ran out of memory has failed, and from then on gives all buffers back unread.
+    pub fn turn(&mut self, alloc: Global, batch: &mut Batch, back: &mut Returned)
         requires ready { IsReady N.stands N.makes N.results N.serves self.old }
         requires none_left { self.old.desk.back ≡ [] }
-        requires own { AllByRecursion (λ w. is_own (work_buffer w) ≡ true) batch }
-        ensures { Turned N.stands N.makes N.results N.serves self.old self.new batch result }
+        requires own { AllByRecursion (λ w. is_own (work_buffer w) ≡ true) batch.old }
+        ensures turned { Turned N.stands N.makes N.results N.serves self.old self.new batch.old back.new }
+        ensures empty { batch.new ≡ [] }
     {
         let _packets = batch.len();
-        let mut batch = batch;
         'each: while let Some(work) = batch.pop_front() {
             self.handle(alloc, work);
         }
-        replace(&mut self.desk.back, Returned::new())
+        back.take_over(&mut self.desk.back);
     }
 
     /// Whether it ran out of memory.

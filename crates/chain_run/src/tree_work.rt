@@ -49,8 +49,8 @@ impl<P: StagesPath + Send> ChainWork for TreeWork<P> {
 
     ghost answer = { plan_answer };
 
-    fn turn(&mut self, alloc: Global, batch: Batch) -> Returned {
-        self.work.turn(alloc, batch)
+    fn turn(&mut self, alloc: Global, batch: &mut Batch, back: &mut Returned) {
+        self.work.turn(alloc, batch, back);
     }
 
     fn failed(&self) -> bool {

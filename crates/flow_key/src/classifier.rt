@@ -123,28 +123,30 @@ impl Classifier {
                 self.records += 1;
                 Ok(found)
             }
-            None => Ok((self.open(tuple)?, Dir::Forward)),
+            None => Ok((self.open(*tuple)?, Dir::Forward)),
         }
     }
 
     /// The record opens a flow, and this is its number. Without memory nothing changes.
+    /// The five-tuple is given by value: so it is put into memory here alone.
     #[cold]
-    fn open(&mut self, tuple: &Option<Tuple>) -> Result<u32, NoMemory>
+    #[inline(never)]
+    fn open(&mut self, tuple: Option<Tuple>) -> Result<u32, NoMemory>
         requires few { self.old.known.records < 2 ^ 32 }
-        requires none { spec.found_in self.old.plan self.old.known.flows (option_map tuple_view tuple.now) ≡ None }
+        requires none { spec.found_in self.old.plan self.old.known.flows (option_map tuple_view tuple) ≡ None }
         ensures number { IfOk result (λ number. number ≡ length self.old.known.flows) }
-        ensures known { OnOk result (self.new ≡ after_record self.old (option_map tuple_view tuple.now)) }
+        ensures known { OnOk result (self.new ≡ after_record self.old (option_map tuple_view tuple)) }
         ensures err { OnErr result (self.new ≡ self.old) }
     {
         self.flows.reserve(1)?;
         self.ranks.reserve(1)?;
         let number = count(&self.flows);
-        let ranked = goes_out(&self.plan, tuple);
-        put_key(&mut self.keys, &mut self.other, tuple, number)?;
+        let ranked = goes_out(&self.plan, &tuple);
+        put_key(&mut self.keys, &mut self.other, &tuple, number)?;
         let rank = put_rank(&mut self.ranks, ranked, number);
-        let flow = Opened::by(number, tuple, rank, self.records as u32);
+        let flow = Opened::by(number, &tuple, rank, self.records as u32);
         push_flow(&mut self.flows, flow);
-        note_recent(&mut self.recent, tuple, number);
+        note_recent(&mut self.recent, &tuple, number);
         self.records += 1;
         Ok(number)
     }

@@ -156,17 +156,18 @@ fn find_recent(flows: &[Opened], recent: &[u32], tuple: &Tuple) -> Option<(u32, 
     Some((number, dir))
 }
 
-/// The flow of the frame's key, by the map, and the frame's direction.
+/// The flow of the frame's key, by the map, and the frame's direction. The five-tuple is given by value: so it
+/// is put into memory here alone.
 #[inline(never)]
-fn find_in_map(flows: &[Opened], keys: &BTreeMap<Key, u32>, tuple: &Tuple) -> Option<(u32, Dir)>
+fn find_in_map(flows: &[Opened], keys: &BTreeMap<Key, u32>, tuple: Tuple) -> Option<(u32, Dir)>
     requires { (k : Key)
         → get key_cmp keys.now k ≡ position (spec.has_key (key_view k)) (map opened_view flows.now) }
     ensures found { found_view result
-        ≡ found_by_key (map opened_view flows.now) (Some (tuple_view tuple.now)) }
+        ≡ found_by_key (map opened_view flows.now) (Some (tuple_view tuple)) }
     ensures within { IfSome result (λ found. found.0 < length flows.now) }
 {
-    let number = *keys.get(&key_of(tuple))?;
-    let dir = direction(&flows[number as usize].first, tuple);
+    let number = *keys.get(&key_of(&tuple))?;
+    let dir = direction(&flows[number as usize].first, &tuple);
     Some((number, dir))
 }
 
@@ -191,7 +192,7 @@ fn find_by_key(
     };
     match find_recent(flows, recent, tuple) {
         Some(found) => Some(found),
-        None => find_in_map(flows, keys, tuple),
+        None => find_in_map(flows, keys, *tuple),
     }
 }
 

@@ -36,8 +36,7 @@ pub fn take_turn<W: ChainWork>(alloc: Global, turns: &mut Turns<W>) -> Result<()
     ensures empty { turns.new.batch ≡ [] }
     ensures same { (p : Plan) → W.follows turns.old.work p → W.follows turns.new.work p }
 {
-    let batch = std::mem::replace(&mut turns.batch, Batch::new());
-    turns.ready = turns.work.turn(alloc, batch);
+    turns.work.turn(alloc, &mut turns.batch, &mut turns.ready);
     if turns.work.failed() {
         return Err(NoMemory);
     }

@@ -1,29 +1,28 @@
 -- Each stage of a chain keeps keys.
-use Rattle.std.proofs.Common.{◌≡◌, ℕ, zero, suc, ◌+◌, ◌-◌, ◌/◌, ◌%◌, ◌≤◌, Bool, true, false, nat_eq, nat_le, List, [], ◌∷◌, ◌++◌, map, Option, Some, None, Result, Ok, Err, refl, ap, sym, subst, ◌∙◌, append-nil, if◌then◌else◌, IfOk}
+use Rattle.std.proofs.Common.{◌≡◌, ℕ, zero, suc, ◌+◌, ◌-◌, ◌/◌, ◌%◌, Bool, true, false, nat_eq, nat_le, List, [], ◌∷◌, ◌++◌, map, Option, Some, None, Result, Ok, Err, refl, ap, ◌∙◌, if◌then◌else◌, IfOk}
 use Rattle.std.specs.Prelude.{length, flat_map, option_map}
 use Rattle.std.specs.List.{AllByRecursion}
 use Rattle.std.specs.Option.{option_to_list}
-use Rattle.brick_spec.specs.AddressTranslation.{by_rank, translated}
+use Rattle.brick_spec.specs.AddressTranslation.{by_rank}
 use Rattle.brick_spec.specs.Flow.{Flow, Direction, Forward, Reversed, Ends}
 use Rattle.brick_spec.specs.FlowClass.{NatPlan}
 use Rattle.brick_spec.specs.FlowStage.{FlowItem, FlowStage, FlowOutput, left_by, alone}
 use Rattle.brick_spec.specs.Item.{Item}
 use Rattle.brick_spec.specs.Layer.{Layer, header_in, payload_in, tcp_layer, ip4_layer}
-use Rattle.brick_spec.specs.Match.{Match, meets_tuple}
+use Rattle.brick_spec.specs.Match.{meets_tuple}
 use Rattle.brick_spec.specs.PacketizedWindow as spec
 use Rattle.brick_spec.specs.Route.{Route}
-use Rattle.brick_spec.specs.Stage.{Reason, Reach, Unparsed, Ttl, Filter, ttl_at, ttl_stage, tos_stage, match_stage, parsed_stage, on_ip4, on_tuple}
+use Rattle.brick_spec.specs.Stage.{Reason, Reach, Unparsed, Ttl, Filter, ttl_at, ttl_stage, parsed_stage, on_ip4, on_tuple}
 use Rattle.brick_spec.specs.Stream.{Reassembly, StreamSegment, ready_of, counts, is_empty}
 use Rattle.brick_spec.specs.Tuple.{Tuple, tuple_of}
 use Rattle.flow_spec.specs.FlowStream.{segment_at, segment_of, stream_of, ready_in}
-use Rattle.flow_spec.specs.Plan as plans
-use Rattle.flow_spec.specs.Plan.{Row, LeafPlan, GroupPlan}
+use Rattle.flow_spec.specs.Plan.{LeafPlan, GroupPlan}
 use Rattle.flow_spec.specs.Routing.{forwarded, routed_by, route_stage, row_for}
 use Rattle.flow_spec.specs.Scan.{scanned, is_found}
 use Rattle.flow_spec.specs.Window.{windows_from, triggered, rest_of, emitted_from, is_marked, own_by, own_left, windows_left, told_at, window_told, rest_in, window_rest, last_template, window_stage}
 use Rattle.chain_spec.specs.ChainSet as chains
-use Rattle.tenant_spec.specs.ChainPlan.{translation, stage_of, row_of, before_stages, leaf_plan, below_plan, group_plan, plan_of}
-use Rattle.flow_work.specs.Keys.{Keeps, RowKeeps, BelowKeeps, PlanKeeps}
+use Rattle.tenant_spec.specs.ChainPlan.{stage_of, row_of, before_stages, leaf_plan, below_plan, group_plan, plan_of}
+use Rattle.flow_work.specs.Keys.{Keeps, RowKeeps, BelowKeeps}
 use Rattle.flow_work.proofs.Keys.{plan_owns}
 use Rattle.work_core.specs.Keys.{ChainsOwnKeys}
 

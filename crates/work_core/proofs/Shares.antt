@@ -1,11 +1,9 @@
 -- Groups shared out among outputs.
-use Rattle.std.proofs.Common.{◌≡◌, ℕ, zero, suc, ◌+◌, ◌<◌, ◌≤◌, List, [], ◌∷◌, ◌++◌, map, length, nat_eq, true, false, Bool, if◌then◌else◌, refl, ap, sym, subst, ◌∙◌, arith, append-nil, append_assoc, get_or, set, take}
+use Rattle.std.proofs.Common.{◌≡◌, ℕ, zero, suc, ◌+◌, ◌<◌, ◌≤◌, List, [], ◌∷◌, ◌++◌, map, length, nat_eq, true, false, Bool, if◌then◌else◌, refl, ap, sym, ◌∙◌, arith, append-nil, append_assoc, get_or, set}
 use Rattle.std.proofs.lemmas.Bool.Decides.{nat_tests}
-use Rattle.std.proofs.lemmas.List.{map-append, take_more, take_all}
-use Rattle.std.specs.List.{AllByRecursion, flat_map, range_with_len}
-use Rattle.std.proofs.lemmas.Grind.{flat_map-append}
+use Rattle.std.proofs.lemmas.List.{map-append}
+use Rattle.std.specs.List.{AllByRecursion, range_with_len}
 use Rattle.std.specs.Global.{Vec}
-use Rattle.brick_spec.specs.Item.{Item}
 use Rattle.brick_spec.specs.GroupOutput.{in_key_order, all_of}
 use Rattle.pcap_io.specs.View.{item_view}
 use Rattle.pcap_io.specs.declared.item.Item.{Item as ItemInCode}

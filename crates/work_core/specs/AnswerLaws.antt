@@ -1,10 +1,9 @@
 -- The laws of what a plan answers.
-use Rattle.std.proofs.Common.{◌≡◌, ◌≢◌, ℕ, zero, suc, ◌+◌, ◌<◌, ◌≤◌, List, [], ◌∷◌, ◌++◌, map, length, nat_eq, Bool}
-use Rattle.std.proofs.Common.{true, false, ◌||◌, min, cond, refl, ap, sym, subst, ◌∙◌, arith, Some}
+use Rattle.std.proofs.Common.{◌≡◌, ℕ, zero, suc, ◌+◌, ◌≤◌, List, [], ◌∷◌, ◌++◌, map, length, nat_eq, Bool}
+use Rattle.std.proofs.Common.{true, false, ◌||◌, min, cond, refl, ap, sym, subst, arith, Some}
 use Rattle.std.proofs.lemmas.Bool.Decides.{nat_tests}
 use Rattle.std.specs.List.{AllByRecursion, list_any, flat_map, range_with_len, slice_index_or}
-use Rattle.std.specs.List.Sorted.{IsPermutation}
-use Rattle.brick_spec.specs.Flow.{Flow, Class}
+use Rattle.brick_spec.specs.Flow.{Flow}
 use Rattle.brick_spec.specs.Item.{Item}
 use Rattle.brick_spec.specs.GroupOutput.{in_key_order, comes_before, put_by}
 use Rattle.group_merge.proofs.Order.{is_ordered}
@@ -14,7 +13,7 @@ use Rattle.flow_work.specs.Meaning.{numbers_of, came_items}
 use Rattle.flow_work.specs.Log.{OwnsKeys, AreRecords}
 use Rattle.flow_work.proofs.Answers.{weak, came_owned}
 use Rattle.flow_work.proofs.Flows.{owner_of, own_keys, beyond_is}
-use Rattle.work_core.specs.ChainWork.{Rises, HasLists, HasRisingLists, HasOwnKeys, HaveNoFlow, HasCappedCounts}
+use Rattle.work_core.specs.ChainWork.{Rises, HasLists, HasRisingLists, HasOwnKeys, HasCappedCounts}
 
 abbrev pub plan_answer : Plan → List ClassedItem → ℕ → Answer
 plan_answer p list n = answer p list n

@@ -1,7 +1,6 @@
 -- The classes of a tenant's records.
 use Rattle.std.specs.Prelude.{◌≡◌, List, map}
 use Rattle.brick_spec.specs.Capture.{Entry, Contents}
-use Rattle.brick_spec.specs.Flow as spec
 use Rattle.brick_spec.specs.FlowClass.{classes_of}
 use Rattle.brick_base.specs.Flow.{class_view}
 use Rattle.brick_base.specs.declared.flow.Class.{Class}

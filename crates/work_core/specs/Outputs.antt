@@ -1,6 +1,6 @@
 -- Lists joined to those of outputs.
 use Rattle.chain_spec.specs.ChainSet.{Leaf, Group, leaves_in}
-use Rattle.std.specs.Prelude.{ℕ, zero, suc, ◌<◌, List, [], ◌∷◌, ◌++◌, map}
+use Rattle.std.specs.Prelude.{ℕ, zero, suc, List, [], ◌∷◌, ◌++◌, map}
 use Rattle.std.specs.Global.{Vec}
 use Rattle.pcap_io.specs.declared.item.Item.{Item}
 

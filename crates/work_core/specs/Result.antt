@@ -1,5 +1,5 @@
 -- What a contract sees of the results of a tenant's work.
-use Rattle.std.specs.Prelude.{ℕ, List, map}
+use Rattle.std.specs.Prelude.{List, map}
 use Rattle.brick_spec.specs.Item.{Item}
 use Rattle.flow_spec.specs.Answer.{Answer}
 use Rattle.pcap_io.specs.View.{item_view}

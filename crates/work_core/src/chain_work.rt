@@ -1,4 +1,4 @@
-ghost use Rattle.std.specs.Prelude.{◌≡◌, ℕ, List, Option, None, Bool, true, IfOk, IsErr};
+ghost use Rattle.std.specs.Prelude.{◌≡◌, ℕ, List, [], Option, None, Bool, true, IfOk, IsErr};
 ghost use Rattle.std.specs.List.{AllByRecursion};
 ghost use Rattle.flow_spec.specs.Answer.{ClassedItem, Answer};
 ghost use Rattle.flow_spec.specs.Plan.{Plan};
@@ -37,12 +37,14 @@ pub trait ChainWork: Drop + Send {
     /// What a plan gives for these items, in a capture of so many records.
     ghost answer: { Plan → List ClassedItem → ℕ → Answer };
 
-    /// Takes the packets of a batch, and gives their buffers back. Their slots are those of a lane, below 1,024.
-    fn turn(&mut self, alloc: Global, batch: Batch) -> Returned
+    /// Takes the packets of a batch, which is empty then, and gives their buffers back in place of those that stood
+    /// there. Their slots are those of a lane, below 1,024.
+    fn turn(&mut self, alloc: Global, batch: &mut Batch, back: &mut Returned)
         requires ready { ready self.old }
         requires open_work { ended self.old ≡ None }
-        requires own { AllByRecursion (λ w. is_own (work_buffer w) ≡ true) batch }
-        ensures { TookTurn follows ready stands ended broken self.old self.new batch result };
+        requires own { AllByRecursion (λ w. is_own (work_buffer w) ≡ true) batch.old }
+        ensures took { TookTurn follows ready stands ended broken self.old self.new batch.old back.new }
+        ensures empty { batch.new ≡ [] };
 
     /// Whether it ran out of memory.
     fn failed(&self) -> bool

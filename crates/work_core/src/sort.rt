@@ -9,5 +9,6 @@ use pcap_io::Item;
 pub fn sort_items(list: &mut Vec<Item>) -> Result<(), NoMemory>
     ensures { OnOk result (map item_view list.new.items ≡ in_key_order (map item_view list.old.items)) }
 {
-    group_merge::sort_items(list)
+    group_merge::sort_items(list)?;
+    Ok(())
 }

@@ -108,7 +108,8 @@ pub fn serve<K: LaneKit, W: ChainWork, R: Wait>(
     if packets == 0 {
         return Turn { packets, ended };
     }
-    let mut returned = work.turn(alloc, batch);
+    let mut returned = Returned::new();
+    work.turn(alloc, &mut batch, &mut returned);
     give_back::<K, R>(rt, lane, seat, &mut returned);
     Turn { packets, ended }
 }

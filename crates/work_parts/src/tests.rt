@@ -35,14 +35,13 @@ impl ChainWork for FixedWork {
 
     ghost answer = { plan_answer };
 
-    fn turn(&mut self, alloc: Global, batch: Batch) -> Returned {
-        let mut batch = batch;
+    fn turn(&mut self, alloc: Global, batch: &mut Batch, back: &mut Returned) {
         let many = batch.len();
-        let mut back = Returned::new();
+        let mut gone = Returned::new();
         'each: while let Some(work) = batch.pop_front() {
-            back.push(work.packet.into_buffer());
+            gone.push(work.packet.into_buffer());
         }
-        back
+        back.take_over(&mut gone);
     }
 
     fn failed(&self) -> bool {

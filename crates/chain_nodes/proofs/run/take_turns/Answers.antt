@@ -7,4 +7,4 @@ loop-batch-init g c = let n = g.N.Node in turned_none n.stands n.makes n.results
 pub loop-batch-preserved : goal.loop-batch-preserved
 loop-batch-preserved g c =
     let n = g.N.Node in
-    turned_more n.stands n.makes n.results n.serves c.args.work c.loop-batch.work c.turn-back.new.self c.loop-batch.yielded c.in-Some.batch c.turn-back.result c.loop-batch.invariant c.turn-back.ensures
+    turned_more n.stands n.makes n.results n.serves c.args.work c.loop-batch.work c.turn.new.self c.loop-batch.yielded c.in-Some.batch c.turn.new.back c.loop-batch.invariant c.turn.ensures.turned

@@ -8,12 +8,11 @@ use Rattle.tenant_run.proofs.turns.take_turn.Goals as goal
 
 pub returns-clause-carries : goal.returns-clause-carries
 returns-clause-carries g c = λ room carried.
-    let none : c.replace-batch.new.dest ≡ [] = c.replace-batch.ensures.after ∙ c.new.ensures in
+    let turn = c.turn.ensures.took in
     record {
-      usable = c.turn.ensures.stays_ready;
-      open_work = c.turn.ensures.still ∙ carried.open_work;
+      usable = turn.stays_ready;
+      open_work = turn.still ∙ carried.open_work;
       works = sym c.failed.ensures ∙ c.if-failed.false;
-      waiting = subst (AllByRecursion (λ (w : Work). IsOf room (work_buffer w))) (sym none) tt;
-      lying = shuffled_are room _ _ c.turn.ensures.buffers
-          (buffers_of_works room _ (subst (AllByRecursion (λ (w : Work). IsOf room (work_buffer w))) (sym c.replace-batch.ensures.value) carried.waiting));
+      waiting = subst (AllByRecursion (λ (w : Work). IsOf room (work_buffer w))) (sym c.turn.ensures.empty) tt;
+      lying = shuffled_are room _ _ turn.buffers (buffers_of_works room _ carried.waiting);
     }

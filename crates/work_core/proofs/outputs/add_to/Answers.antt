@@ -1,4 +1,4 @@
-use Rattle.std.proofs.Common.{◌≡◌, ◌∙◌, ◌++◌, ap, sym, arith}
+use Rattle.std.proofs.Common.{◌∙◌, ◌++◌, ap}
 use Rattle.work_core.proofs.Shares.{grown_at}
 use Rattle.work_core.proofs.outputs.add_to.Goals as goal
 

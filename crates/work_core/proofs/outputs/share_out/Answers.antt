@@ -1,10 +1,9 @@
-use Rattle.std.proofs.Common.{◌≡◌, ◌<◌, ◌≤◌, ◌∙◌, ◌++◌, ◌∷◌, ◌+◌, [], List, ℕ, map, length, take, get_or, ap, sym, subst, arith, length-append, rules}
+use Rattle.std.proofs.Common.{◌≡◌, ◌<◌, ◌∙◌, ◌++◌, ◌∷◌, ◌+◌, [], length, take, get_or, ap, sym, arith, length-append}
 use Rattle.std.proofs.lemmas.List.{take_more, length-take-le}
 use Rattle.std.proofs.lemmas.Iterator.Adapters.{YieldsList-from_vec}
 use Rattle.std.proofs.lemmas.Iterator.Consumers.{YieldsList-turn}
-use Rattle.pcap_io.specs.declared.item.Item.{Item}
 use Rattle.work_core.specs.Outputs.{item_lists, grown, shared_out}
-use Rattle.work_core.proofs.Shares.{shared_more, all_at}
+use Rattle.work_core.proofs.Shares.{shared_more}
 use Rattle.work_core.proofs.outputs.share_out.Goals as goal
 
 pub loop-group-preserved : goal.loop-group-preserved

@@ -23,10 +23,10 @@ handle-requires-clause-out g c =
     let rest = c.pop_front.new.self in
     let d = c.args.self.now.desk in
     let e = c.each.self.desk in
-    let few : length c.args.batch ≤ 32 = subst (λ (n : ℕ). n ≤ 32) c.len-packets.ensures.value c.len-packets.ensures.most in
-    let all = batch_out n.stands n.makes n.results n.serves g.met.N.Node.more c.args.self.now c.args.batch c.requires.ready c.requires.none_left few c.requires.own in
+    let few : length c.args.batch.now ≤ 32 = subst (λ (n : ℕ). n ≤ 32) c.len-packets.ensures.value c.len-packets.ensures.most in
+    let all = batch_out n.stands n.makes n.results n.serves g.met.N.Node.more c.args.self.now c.args.batch.now c.requires.ready c.requires.none_left few c.requires.own in
     out_front (work_buffer w ∷ []) (map work_buffer rest) e.back e.out.spare
-    (out_after (map work_buffer v.0) (work_buffer w ∷ map work_buffer rest) d.back e.back d.out.spare e.out.spare (subst (λ bs. AreOut bs d.back d.out.spare) (split_at c.args.batch v.0 c.each.batch rest w v.1 c.in-Some.ensures) all) v.2.recycled)
+    (out_after (map work_buffer v.0) (work_buffer w ∷ map work_buffer rest) d.back e.back d.out.spare e.out.spare (subst (λ bs. AreOut bs d.back d.out.spare) (split_at c.args.batch.now v.0 c.each.batch rest w v.1 c.in-Some.ensures) all) v.2.recycled)
 
 pub each-preserved : goal.each-preserved
 each-preserved g c =
@@ -36,10 +36,10 @@ each-preserved g c =
     let rest = c.pop_front.new.self in
     (v.0 ++ w ∷ [], v.1 ∙ (ap (λ t. v.0 ++ t) c.in-Some.ensures ∙ sym (append_assoc v.0 (w ∷ []) rest)), handled_both n.stands n.makes n.results n.serves g.met.N.Node.more c.args.self.now c.each.self c.handle.new.self v.0 (w ∷ []) v.2 c.handle.ensures)
 
-pub returns : goal.returns
-returns g c =
+pub returns-clause-turned : goal.returns-clause-turned
+returns-clause-turned g c =
     let n = g.N.Node in
     let v = c.each.invariant in
-    let all : c.args.batch ≡ v.0 = v.1 ∙ (ap (λ t. v.0 ++ t) c.in_default.ensures.0 ∙ append-nil v.0) in
-    turn_did n.stands n.makes n.results n.serves g.met.N.Node.more c.args.self.now c.each.self c.args.batch c.replace.result c.replace.new.dest c.requires.none_left c.requires.own
-    (subst (λ (ws : List Work). Handled n.stands n.makes n.results n.serves c.args.self.now c.each.self ws) (sym all) v.2) c.replace.ensures.value (c.replace.ensures.after ∙ c.new.ensures)
+    let all : c.args.batch.now ≡ v.0 = v.1 ∙ (ap (λ t. v.0 ++ t) c.in_default.ensures.0 ∙ append-nil v.0) in
+    turn_did n.stands n.makes n.results n.serves g.met.N.Node.more c.args.self.now c.each.self c.args.batch.now c.take_over.new.self c.take_over.new.other c.requires.none_left c.requires.own
+    (subst (λ (ws : List Work). Handled n.stands n.makes n.results n.serves c.args.self.now c.each.self ws) (sym all) v.2) c.take_over.ensures.here c.take_over.ensures.none_left

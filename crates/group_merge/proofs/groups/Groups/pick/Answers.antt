@@ -1,4 +1,4 @@
-use Rattle.std.proofs.Common.{◌≡◌, List, Option, map, option_map, refl, ap, sym, ◌∙◌}
+use Rattle.std.proofs.Common.{List, Option, map, option_map, refl, ap, sym, ◌∙◌}
 use Rattle.brick_spec.specs.GroupOutput as spec
 use Rattle.tcp_udp.specs.MatchView.{match_view}
 use Rattle.tcp_udp.specs.declared.matching.Match.{Match}
