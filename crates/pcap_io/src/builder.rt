@@ -49,6 +49,23 @@ impl fmt::Debug for ItemsBuilder {
     }
 }
 
+/// How many items there is room for from the first one on, and how many bytes of frames: lists of these sizes grow in
+/// their places, and are not copied. Memory that is not written to costs nothing.
+const FIRST_ITEMS: usize = 4096;
+const FIRST_BYTES: usize = 262_144;
+
+/// Makes room before the first item comes.
+fn make_first_room(heads: &mut Vec<Head>, bytes: &mut Vec<u8>) -> Result<(), NoMemory>
+    ensures heads { heads.new.items ≡ heads.old.items }
+    ensures bytes { bytes.new.items ≡ bytes.old.items }
+{
+    if heads.is_empty() {
+        heads.reserve(FIRST_ITEMS)?;
+        bytes.reserve(FIRST_BYTES)?;
+    }
+    Ok(())
+}
+
 /// The item of a head.
 fn item_of(store: &Arc<Vec<u8>>, head: &Head) -> Result<Item, NoMemory>
     requires { HasFrameIn (arc_value store.now).items head.now }
@@ -94,6 +111,7 @@ impl ItemsBuilder {
         ensures ok { OnOk result (self.new.items ≡ self.old.items ++ own_item item.entry ∷ []) }
         ensures err { OnErr result (self.new ≡ self.old) }
     {
+        make_first_room(&mut self.heads, &mut self.bytes)?;
         let head = Head {
             a: item.a,
             j: item.j,
