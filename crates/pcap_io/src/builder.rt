@@ -52,6 +52,7 @@ impl fmt::Debug for ItemsBuilder {
 /// How many items there is room for from the first one on, and how many bytes of frames: lists of these sizes grow in
 /// their places, and are not copied. Memory that is not written to costs nothing.
 const FIRST_ITEMS: usize = 4096;
+
 const FIRST_BYTES: usize = 262_144;
 
 /// Makes room before the first item comes.

@@ -48,6 +48,7 @@ fn other_in_turn<S: TreatRead>(
 }
 
 /// Lets stages treat a packet, whose headers are read once.
+#[inline(always)]
 fn treat_in_turn<S: TreatRead>(
     stages: &mut [S],
     class: &Class,

@@ -14,10 +14,6 @@ const CHUNK: usize = 65536;
 /// How many bytes are copied at once: few, so that the copy stays with vector registers.
 const STRIDE: usize = 1024;
 
-/// How many bytes there is room for before the first of a file are read: a list of this size grows in its place, and
-/// is not copied.
-const FIRST_ROOM: usize = 4 * CHUNK;
-
 /// Why a file was not read.
 #[derive(Clone, Copy, Debug, PartialEq, Eq, Error)]
 pub enum ReadFault {
@@ -94,7 +90,7 @@ fn read_through<S: Store>(
     ensures cause { Causes account name.now (S.faults store.old) (S.faults store.new)
         (IsErrOf result ReadFault.Failed) }
 {
-    let mut bytes = Vec::with_capacity(alloc, FIRST_ROOM.min(limit))?;
+    let mut bytes = Vec::with_capacity(alloc, CHUNK)?;
     while bytes.len() <= limit {
         let count = store.read_at(account, name, bytes.len() as u64, chunk)?;
         if count == 0 {
