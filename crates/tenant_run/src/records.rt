@@ -6,7 +6,7 @@ ghost use Rattle.chain_types.specs.View.{chain_view};
 ghost use Rattle.tenant_run.specs.Turns.{Carries, Waits};
 ghost use Rattle.tenant_run.specs.Made.{AreCounted, accepted_upto};
 
-use crate::turns::{Turns, let_wait};
+use crate::turns::{Turns, let_wait, take_packet};
 use brick_base::NoMemory;
 use chain_types::Chain;
 use flow_key::Classifier;
@@ -46,12 +46,14 @@ pub fn take_record<W: ChainWork>(
     ensures same { (p : Plan) → W.follows turns.old.work p → W.follows turns.new.work p }
 {
     let entry = capture.entry(k);
+    let packet = take_packet(alloc, turns, chain.bytes, k, entry)?;
     let class = classifier.classify(entry.frame)?;
-    if entry.frame.len() > chain.bytes as usize {
-        counts.big += 1;
-        return Ok(());
+    match packet {
+        Some(packet) => {
+            counts.accepted += 1;
+            let_wait(turns, class, packet);
+        }
+        None => counts.big += 1,
     }
-    counts.accepted += 1;
-    let_wait(alloc, turns, class, chain.bytes, k, entry)?;
     Ok(())
 }

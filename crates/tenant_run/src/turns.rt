@@ -1,13 +1,15 @@
-ghost use Rattle.std.specs.Prelude.{◌≡◌, ◌++◌, ◌∷◌, ◌≤◌, ◌<◌, ℕ, List, [], length, IfOk, OnOk};
+ghost use Rattle.std.specs.Prelude.{◌≡◌, ◌++◌, ◌∷◌, ◌≤◌, ◌<◌, ℕ, List, [], length, IfOk, IfSome, IsNone, OnOk};
 ghost use Rattle.brick_base.specs.Flow.{class_view};
 ghost use Rattle.brick_spec.specs.Item.{item_of};
+ghost use Rattle.batch_ops.specs.Outlet.{buffer_of};
+ghost use Rattle.packet_owner.specs.Packet.{packet_item};
 ghost use Rattle.pcap_io.specs.View.{entry_view};
 ghost use Rattle.flow_spec.specs.Answer.{ClassedItem};
 ghost use Rattle.flow_spec.specs.Plan.{Plan};
 ghost use Rattle.tenant_run.specs.Turns.{AreOf, IsOf, Carries, Waits};
 
 use batch_ops::{Batch, Work};
-use brick_base::{Class, NoMemory};
+use brick_base::{Class, NoMemory, Raw};
 use packet_owner::{Buffer, Packet};
 use pcap_io::Entry;
 use std::alloc::Global;
@@ -80,27 +82,42 @@ fn take_buffer(
     }
 }
 
-/// Lets the packet of a record wait. Where 32 wait already, they have their turn before.
-pub fn let_wait<W: ChainWork>(
+/// The packet of a record, in a buffer that lies ready or a new one, and a place for it in the batch: where 32 wait, they
+/// have their turn before. There is none where the record is longer than a buffer.
+pub fn take_packet<W: ChainWork>(
     alloc: Global,
     turns: &mut Turns<W>,
-    class: Class,
     bytes: u32,
     number: u32,
     entry: Entry<'_>,
-) -> Result<(), NoMemory>
+) -> Result<Option<Packet<Raw>>, NoMemory>
     requires carries { Carries W.ready W.ended W.broken bytes turns.old }
-    requires fits { length entry.frame.now ≤ bytes }
     ensures carries { OnOk result (Carries W.ready W.ended W.broken bytes turns.new) }
     ensures waits { OnOk result ((list : List ClassedItem) → Waits W.stands list turns.old
-        → Waits W.stands (list ++ record { class = class_view class; item = item_of number (entry_view entry.entry) }
-        ∷ []) turns.new) }
+        → Waits W.stands list turns.new) }
+    ensures long { IfOk result (λ packet. IsNone packet → bytes < length entry.entry.frame.now) }
+    ensures packet { IfOk result (λ packet. IfSome packet (λ p. (length entry.entry.frame.now ≤ bytes)
+        × (length turns.new.batch < 32) × IsOf bytes (buffer_of p)
+        × (packet_item p ≡ item_of number (entry_view entry.entry)))) }
     ensures same { (p : Plan) → W.follows turns.old.work p → W.follows turns.new.work p }
 {
+    if entry.frame.len() > bytes as usize {
+        return Ok(None);
+    }
     make_way(alloc, turns)?;
     let slot = turns.batch.len() as u32;
     let buffer = take_buffer(alloc, slot, bytes, &mut turns.ready)?;
-    let packet = Packet::fill(buffer, number, entry);
+    Ok(Some(Packet::fill(buffer, number, entry)))
+}
+
+/// Lets a packet wait.
+pub fn let_wait<W: ChainWork>(turns: &mut Turns<W>, class: Class, packet: Packet<Raw>)
+    requires place { length turns.old.batch < 32 }
+    ensures carries { (room : ℕ) → IsOf room (buffer_of packet) → Carries W.ready W.ended W.broken room turns.old
+        → Carries W.ready W.ended W.broken room turns.new }
+    ensures waits { (list : List ClassedItem) → Waits W.stands list turns.old
+        → Waits W.stands (list ++ record { class = class_view class; item = packet_item packet } ∷ []) turns.new }
+    ensures same { turns.new.work ≡ turns.old.work }
+{
     turns.batch.push(Work { class, packet });
-    Ok(())
 }
