@@ -101,6 +101,7 @@ impl Classifier {
 
     /// The number of the next record's flow and the record's direction, by its five-tuple and by the flows so far.
     /// Where none of these is its flow, it opens one.
+    #[inline(always)]
     fn find_or_open(&mut self, tuple: &Option<Tuple>) -> Result<(u32, Dir), NoMemory>
         requires { self.old.known.records < 2 ^ 32 }
         ensures class { IfOk result (λ found. class_found self.new.known.flows (found.0, dir_view found.1)

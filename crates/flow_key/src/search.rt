@@ -124,6 +124,7 @@ fn direction_between(first: &Tuple, tuple: &Tuple) -> Option<Dir>
 }
 
 /// The flow of which the frame is a reply, where there is a plan.
+#[inline(always)]
 fn reply_of(
     plan: &Option<NatPlan>,
     flows: &[Opened],
@@ -143,6 +144,7 @@ fn reply_of(
 
 /// The flow that was opened last of those with the slot of the frame, where that has the frame's key, and the frame's
 /// direction.
+#[inline(always)]
 fn find_recent(flows: &[Opened], recent: &[u32], tuple: &Tuple) -> Option<(u32, Dir)>
     requires { HaveOwnKeys (map opened_view flows.now) }
     ensures found { IsSome result
@@ -172,6 +174,7 @@ fn find_in_map(flows: &[Opened], keys: &BTreeMap<Key, u32>, tuple: Tuple) -> Opt
 }
 
 /// The earlier flow of the frame's key, and the frame's direction.
+#[inline(always)]
 fn find_by_key(
     flows: &[Opened],
     keys: &BTreeMap<Key, u32>,
@@ -197,6 +200,7 @@ fn find_by_key(
 }
 
 /// The earlier flow of a record, and the record's direction.
+#[inline(always)]
 pub(crate) fn find(
     plan: &Option<NatPlan>,
     flows: &[Opened],

@@ -55,14 +55,26 @@ const FIRST_ITEMS: usize = 4096;
 
 const FIRST_BYTES: usize = 262_144;
 
+/// Makes room for the first items.
+#[cold]
+#[inline(never)]
+fn reserve_first(heads: &mut Vec<Head>, bytes: &mut Vec<u8>) -> Result<(), NoMemory>
+    ensures heads { heads.new.items ≡ heads.old.items }
+    ensures bytes { bytes.new.items ≡ bytes.old.items }
+{
+    heads.reserve(FIRST_ITEMS)?;
+    bytes.reserve(FIRST_BYTES)?;
+    Ok(())
+}
+
 /// Makes room before the first item comes.
+#[inline]
 fn make_first_room(heads: &mut Vec<Head>, bytes: &mut Vec<u8>) -> Result<(), NoMemory>
     ensures heads { heads.new.items ≡ heads.old.items }
     ensures bytes { bytes.new.items ≡ bytes.old.items }
 {
     if heads.is_empty() {
-        heads.reserve(FIRST_ITEMS)?;
-        bytes.reserve(FIRST_BYTES)?;
+        reserve_first(heads, bytes)?;
     }
     Ok(())
 }
@@ -108,6 +120,7 @@ impl ItemsBuilder {
     }
 
     /// Puts the item behind the others, with a copy of its frame. Where memory runs out nothing is put.
+    #[inline(always)]
     pub fn push(&mut self, item: LentItem<'_>) -> Result<(), NoMemory>
         ensures ok { OnOk result (self.new.items ≡ self.old.items ++ own_item item.entry ∷ []) }
         ensures err { OnErr result (self.new ≡ self.old) }
