@@ -32,9 +32,9 @@ pub(crate) fn both(
     }
 }
 
-/// Hands packets that wait to a place, in order.
+/// Hands packets that wait to a place, in order, where some wait.
 #[inline(never)]
-fn pass_on<N: Node>(
+fn pass_each<N: Node>(
     alloc: Global,
     class: &Class,
     waiting: &mut Vec<Passed>,
@@ -58,6 +58,30 @@ fn pass_on<N: Node>(
         outcome = both(outcome, taken);
     }
     outcome
+}
+
+/// Hands packets that wait to a place, in order. A stage that keeps packets lets none wait most of the time.
+#[inline]
+fn pass_on<N: Node>(
+    alloc: Global,
+    class: &Class,
+    waiting: &mut Vec<Passed>,
+    next: &mut N,
+    desk: &mut Desk,
+) -> Result<(), NoMemory>
+    requires serves { N.serves next.old desk.old.out.spare.count desk.old.out.spare.bytes
+        (length desk.old.out.spare.free) }
+    requires rest { IsEmptied desk.old.out }
+    requires out { AreOut (map passed_buffer waiting.old.items) desk.old.back desk.old.out.spare }
+    ensures took { Took N.stands N.makes N.results N.serves next.old next.new (flow_of class.now)
+        (map passed_buffer waiting.old.items) (map passed_item waiting.old.items) None desk.old desk.new result }
+    ensures none { waiting.new.items ≡ [] }
+    ensures room { vec_capacity waiting.new ≡ vec_capacity waiting.old }
+{
+    if waiting.is_empty() {
+        return Ok(());
+    }
+    pass_each(alloc, class, waiting, next, desk)
 }
 
 /// A row of stages, and a place behind it.

@@ -63,13 +63,13 @@ impl<N: Node> NodeWork<N> {
         requires out { AreOut (work_buffer work ∷ []) self.old.desk.back self.old.desk.out.spare }
         ensures { Handled N.stands N.makes N.results N.serves self.old self.new (work ∷ []) }
     {
-        let Work { class, packet } = work;
+        let packet = work.packet;
         if self.failed {
             self.desk.put_back(packet);
             return;
         }
-        let noted = self.flows.note(&class);
-        let taken = self.root.take(alloc, &class, packet, &mut self.desk);
+        let noted = self.flows.note(&work.class);
+        let taken = self.root.take(alloc, &work.class, packet, &mut self.desk);
         self.failed = both(noted, taken).is_err();
     }
 

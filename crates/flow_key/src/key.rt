@@ -18,7 +18,7 @@ pub(crate) struct Key {
 }
 
 /// How many slots flows are spread over.
-pub(crate) const SLOTS: usize = 16384;
+pub(crate) const SLOTS: usize = 65536;
 
 /// The slot of a five-tuple, below `SLOTS`, which is also that of its reply: the products of the addresses and of the
 /// ports are the same in both directions. Fibonacci hashing takes the top bits.
@@ -28,5 +28,5 @@ pub(crate) fn slot_of(tuple: &Tuple) -> usize {
     let addresses = (tuple.src as u64).wrapping_mul(tuple.dst as u64);
     let ports = (sport as u64).wrapping_mul(dport as u64);
     let mixed = (addresses ^ ports).wrapping_mul(0x9e37_79b9_7f4a_7c15);
-    (mixed >> 50) as usize
+    (mixed >> 48) as usize
 }

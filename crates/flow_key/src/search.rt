@@ -195,7 +195,7 @@ fn find_by_key(
     };
     match find_recent(flows, recent, tuple) {
         Some(found) => Some(found),
-        None => find_in_map(flows, keys, *tuple),
+        None => find_in_map(flows, keys, Tuple { ..*tuple }),
     }
 }
 

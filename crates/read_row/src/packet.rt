@@ -50,6 +50,7 @@ impl ReadPacket {
 
     /// The five-tuple of its frame, by the layers that were read: it is made where it is not known yet, and is known
     /// then.
+    #[inline(always)]
     #[tactic(auto, using(crate::proofs::Closing::long_header))]
     pub fn five_tuple(&mut self) -> Tuple
         requires { IsRead self.old.packet }

@@ -10,6 +10,7 @@ use brick_base::{Class, NoMemory, Raw, Reason};
 use packet_owner::Packet;
 
 /// Lets each stage treat what the one before let go on.
+#[inline(always)]
 fn read_in_turn<S: TreatRead>(
     stages: &mut [S],
     class: &Class,
@@ -48,6 +49,7 @@ fn other_in_turn<S: TreatRead>(
 }
 
 /// Lets stages treat a packet, whose headers are read once.
+#[inline(never)]
 fn treat_in_turn<S: TreatRead>(
     stages: &mut [S],
     class: &Class,
@@ -92,6 +94,7 @@ impl<S> ReadRow<S> {
 impl<S: TreatRead> ReadRow<S> {
     /// Lets the stages treat a packet, in its own buffer. It goes on, or is dropped. Where memory runs out it is lost,
     /// and the row has failed: it loses each packet from then on.
+    #[inline(always)]
     pub fn treat(&mut self, class: &Class, packet: Packet<Raw>) -> Result<Packet<Raw>, Dropped>
         ensures treats { RowTreats S.kind self.old.stages.items self.new.stages.items class.now packet result }
         ensures lost { self.new.failed ≡ was_lost result }

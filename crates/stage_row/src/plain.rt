@@ -37,6 +37,7 @@ impl TreatRead for PlainStage {
 
     ghost kind = { plain_kind };
 
+    #[inline(always)]
     fn treat_read(&mut self, class: &Class, packet: &mut ReadPacket) -> Result<(), Option<Reason>> {
         match self {
             PlainStage::Parsed(stage) => stage.treat_read(class, packet),

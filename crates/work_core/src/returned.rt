@@ -1,7 +1,6 @@
-ghost use Rattle.std.specs.Prelude.{◌≡◌, ◌<◌, ◌≤◌, ◌+◌, ◌-◌, List, [], ◌∷◌, ◌++◌, Option, Some, None, take, drop, length};
+ghost use Rattle.std.specs.Prelude.{◌≡◌, ◌<◌, ◌≤◌, ◌+◌, ◌-◌, [], ◌∷◌, ◌++◌, Option, Some, None, take, drop, length};
 ghost use Rattle.std.specs.Prelude.{MatchOption};
 ghost use Rattle.std.specs.List.{slice_index_or, slice_set};
-ghost use Rattle.packet_owner.specs.Buffer.{BufferModel};
 
 use packet_owner::Buffer;
 use std::marker::Model;
@@ -75,20 +74,6 @@ fn make_room(buffers: &mut [Option<Buffer>; MOST], front: usize, end: usize) -> 
     (0, end - front)
 }
 
-/// The places behind the first of those from `front` up to `end`. Where none is left they begin anew.
-fn places_behind(front: usize, end: usize) -> (usize, usize)
-    requires { front < end }
-    ensures within { (result.0 ≤ result.1) × (result.1 ≤ end) }
-    ensures items { (xs : List (Option BufferModel)) → drop result.0 (take result.1 xs)
-        ≡ drop (front + 1) (take end xs) }
-{
-    if front + 1 == end {
-        (0, 0)
-    } else {
-        (front + 1, end)
-    }
-}
-
 impl Returned {
     /// No buffer.
     pub fn new() -> Returned
@@ -118,12 +103,13 @@ impl Returned {
         ensures { MatchOption result ((self.old ≡ []) × (self.new ≡ [])) (λ b. self.old ≡ b ∷ self.new) }
     {
         if self.front == self.end {
+            // The places begin anew.
+            self.front = 0;
+            self.end = 0;
             return None;
         }
         let first = take_at(&mut self.buffers, self.front);
-        let (front, end) = places_behind(self.front, self.end);
-        self.front = front;
-        self.end = end;
+        self.front += 1;
         first
     }
 

@@ -4,7 +4,7 @@ use Rattle.batch_ops.specs.declared.outlet.Passed.{Passed}
 use Rattle.batch_ops.specs.Outlet.{passed_item}
 use Rattle.chain_nodes.specs.Desk.{passed_buffer}
 use Rattle.chain_nodes.specs.Node.{Took}
-use Rattle.chain_nodes.proofs.pipe.pass_on.Given as goal
+use Rattle.chain_nodes.proofs.pipe.pass_each.Given as goal
 
 -- the first of them were taken, and the others wait in reverse
 abbrev pub invariant-each : goal.invariant-each
