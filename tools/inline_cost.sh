@@ -54,7 +54,7 @@ routes=""
 for third in $(seq 0 63); do
     routes="$routes{ to = \"10.1.$third.0/24\", via = \"0c:00:00:00:00:01\" }, "
 done
-measure '{ stage = "ttl" }, { stage = "only", match = { proto = "udp" } }' "ttl, only" 900
-measure "{ stage = \"firewall\", default = \"deny\", rule = [$rules] }, { stage = \"route\", mac = \"0a:00:00:00:00:0b\", route = [$routes] }" "firewall, route" 1400
-measure row "ttl, only, firewall of 8 rules, route of 16 rows" 1550
+measure '{ stage = "ttl" }, { stage = "only", match = { proto = "udp" } }' "ttl, only" 820
+measure "{ stage = \"firewall\", default = \"deny\", rule = [$rules] }, { stage = \"route\", mac = \"0a:00:00:00:00:0b\", route = [$routes] }" "firewall, route" 1300
+measure row "ttl, only, firewall of 8 rules, route of 16 rows" 1450
 exit $failed

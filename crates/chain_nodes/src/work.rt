@@ -70,7 +70,9 @@ impl<N: Node> NodeWork<N> {
         }
         let noted = self.flows.note(&work.class);
         let taken = self.root.take(alloc, &work.class, packet, &mut self.desk);
-        self.failed = both(noted, taken).is_err();
+        if both(noted, taken).is_err() {
+            self.failed = true;
+        }
     }
 
     /// Takes the packets of a batch through the chain, and gives their buffers back in place of those that stood there.

@@ -7,7 +7,7 @@ ghost use Rattle.brick_base.specs.Flow.{ends_view};
 ghost use Rattle.tcp_udp.specs.View.{tuple_view};
 
 use crate::ends::{ends_of, flow_hash};
-use brick_base::{Class, Dir};
+use brick_base::{Class, Dir, Ends};
 use tcp_udp::Tuple;
 
 /// A flow: the five-tuple of its first record, none for the flow of class Other, and that record's class. What a class
@@ -55,6 +55,7 @@ impl Opened {
     {
         Class {
             flow: number,
+            first: Ends { ..self.class.first },
             dir,
             ..self.class
         }

@@ -1,4 +1,5 @@
-ghost use Rattle.std.specs.Prelude.{◌≡◌, ◌<◌, ◌+◌, ◌^◌, length, take, OnOk};
+ghost use Rattle.std.specs.Prelude.{◌≡◌, ◌<◌, ◌+◌, ◌^◌, ◌++◌, ◌∷◌, [], ℕ, List, Option, length, take, OnOk};
+ghost use Rattle.brick_spec.specs.FlowClass.{NatPlan};
 ghost use Rattle.flow_spec.specs.Plan.{Plan};
 ghost use Rattle.flow_key.specs.Frames.{frames_of};
 ghost use Rattle.flow_key.specs.Maps.{after_frames};
@@ -19,6 +20,19 @@ use work_core::ChainWork;
 pub struct Counts {
     pub accepted: u32,
     pub big: u32,
+}
+
+/// Tells the classifier of a record that is longer than the chain's buffers. There are few of them: this stays out of the
+/// loop.
+#[cold]
+#[inline(never)]
+fn note_big(classifier: &mut Classifier, frame: &[u8]) -> Result<(), NoMemory>
+    requires { classifier.old.known.records < 2 ^ 32 }
+    ensures { (plan : Option NatPlan) (frames : List (List ℕ)) → classifier.old ≡ after_frames plan frames
+        → OnOk result (classifier.new ≡ after_frames plan (frames ++ frame.now ∷ [])) }
+{
+    let _class = classifier.classify(frame)?;
+    Ok(())
 }
 
 /// Takes the record of a number, with those before it taken: its class is told, and it is counted as Big, or its packet
@@ -46,14 +60,14 @@ pub fn take_record<W: ChainWork>(
     ensures same { (p : Plan) → W.follows turns.old.work p → W.follows turns.new.work p }
 {
     let entry = capture.entry(k);
+    if entry.frame.len() > chain.bytes as usize {
+        note_big(classifier, entry.frame)?;
+        counts.big += 1;
+        return Ok(());
+    }
     let packet = take_packet(alloc, turns, chain.bytes, k, entry)?;
     let class = classifier.classify(entry.frame)?;
-    match packet {
-        Some(packet) => {
-            counts.accepted += 1;
-            let_wait(turns, class, packet);
-        }
-        None => counts.big += 1,
-    }
+    counts.accepted += 1;
+    let_wait(turns, class, packet);
     Ok(())
 }

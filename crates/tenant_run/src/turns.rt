@@ -1,4 +1,4 @@
-ghost use Rattle.std.specs.Prelude.{◌≡◌, ◌++◌, ◌∷◌, ◌≤◌, ◌<◌, ℕ, List, [], length, IfOk, IfSome, IsNone, OnOk};
+ghost use Rattle.std.specs.Prelude.{◌≡◌, ◌++◌, ◌∷◌, ◌≤◌, ◌<◌, ℕ, List, [], length, IfOk, OnOk};
 ghost use Rattle.brick_base.specs.Flow.{class_view};
 ghost use Rattle.brick_spec.specs.Item.{item_of};
 ghost use Rattle.batch_ops.specs.Outlet.{buffer_of};
@@ -82,32 +82,29 @@ fn take_buffer(
     }
 }
 
-/// The packet of a record, in a buffer that lies ready or a new one, and a place for it in the batch: where 32 wait, they
-/// have their turn before. There is none where the record is longer than a buffer.
+/// The packet of a record that is no longer than a buffer, in a buffer that lies ready or a new one, and a place for it in
+/// the batch: where 32 wait, they have their turn before.
 pub fn take_packet<W: ChainWork>(
     alloc: Global,
     turns: &mut Turns<W>,
     bytes: u32,
     number: u32,
     entry: Entry<'_>,
-) -> Result<Option<Packet<Raw>>, NoMemory>
+) -> Result<Packet<Raw>, NoMemory>
     requires carries { Carries W.ready W.ended W.broken bytes turns.old }
+    requires small { length entry.frame.now ≤ bytes }
     ensures carries { OnOk result (Carries W.ready W.ended W.broken bytes turns.new) }
     ensures waits { OnOk result ((list : List ClassedItem) → Waits W.stands list turns.old
         → Waits W.stands list turns.new) }
-    ensures long { IfOk result (λ packet. IsNone packet → bytes < length entry.entry.frame.now) }
-    ensures packet { IfOk result (λ packet. IfSome packet (λ p. (length entry.entry.frame.now ≤ bytes)
-        × (length turns.new.batch < 32) × IsOf bytes (buffer_of p)
-        × (packet_item p ≡ item_of number (entry_view entry.entry)))) }
+    ensures place { OnOk result (length turns.new.batch < 32) }
+    ensures buffer { IfOk result (λ p. IsOf bytes (buffer_of p)) }
+    ensures item { IfOk result (λ p. packet_item p ≡ item_of number (entry_view entry.entry)) }
     ensures same { (p : Plan) → W.follows turns.old.work p → W.follows turns.new.work p }
 {
-    if entry.frame.len() > bytes as usize {
-        return Ok(None);
-    }
     make_way(alloc, turns)?;
     let slot = turns.batch.len() as u32;
     let buffer = take_buffer(alloc, slot, bytes, &mut turns.ready)?;
-    Ok(Some(Packet::fill(buffer, number, entry)))
+    Ok(Packet::fill(buffer, number, entry))
 }
 
 /// Lets a packet wait.

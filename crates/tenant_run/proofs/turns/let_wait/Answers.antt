@@ -1,9 +1,7 @@
 use Rattle.std.proofs.Common.{sym, subst, refl}
 use Rattle.std.specs.List.{AllByRecursion}
-use Rattle.brick_base.specs.Flow.{class_view}
 use Rattle.batch_ops.specs.declared.batch.Work.{Work}
 use Rattle.flow_work.specs.Buffers.{work_buffer}
-use Rattle.packet_owner.specs.Packet.{packet_item}
 use Rattle.tenant_run.specs.Turns.{IsOf}
 use Rattle.tenant_run.proofs.Turning.{all_both, waited}
 use Rattle.tenant_run.proofs.turns.let_wait.Goals as goal

@@ -1,4 +1,3 @@
-use Rattle.std.proofs.Common.{ap, ◌∙◌, nat_lt}
 use Rattle.tenant_run.proofs.turns.take_packet.Goals as goal
 
 pub take_buffer-requires-clause-ready : goal.take_buffer-requires-clause-ready
